@@ -5,12 +5,14 @@
 
 #![tactic(auto)]
 
+mod applying;
 mod marks;
 mod mirror;
 mod mirrored;
 mod reading;
 mod shaping;
 
+pub use applying::apply;
 pub use mirror::Mirror;
 pub use mirrored::Mirrored;
 pub use reading::change_of;

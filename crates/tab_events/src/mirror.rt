@@ -7,6 +7,7 @@ ghost use Rattle.tab_model.specs.Names.{terms_list};
 ghost use Rattle.tab_model.specs.Shapes.{change_of as change_of_term, in_table as in_table_of};
 ghost use Rattle.tab_events.specs.Mirrors.{put_all, changed, fed};
 
+use crate::applying::apply;
 use crate::marks::{dumped, is_end_mark, is_overflow};
 use crate::mirrored::Mirrored;
 use crate::reading::{change_of, in_table};
@@ -107,7 +108,7 @@ impl Mirror {
         let Some(change) = in_table(&self.table, change_of(alloc, told)?) else {
             return Ok(Mirrored::Other);
         };
-        rows.change(alloc, &change, None)?;
+        apply(alloc, rows, &change)?;
         Ok(Mirrored::Applied)
     }
 }

@@ -66,6 +66,7 @@ absent_value p rows r none = any_at r rows ∙ counted_none (same r) (at rows (k
 pub first_appended : (p : ℕ) (rows : Rows) (r : PlainTerm) (ms : List KeyCounts) → is_ordered rows ≡ true → any_has p (element p r) (at rows (key r)) ≡ false → IsFurtherOf rows p ms → IsFurtherOf (put Bag rows r) p ms
 first_appended p rows r ms o none i = record {
   counts = λ v k. cases v k (same (term v) (element p r)) refl (same (term k) (key r)) refl (i.counts v k) (put_new p rows r o (absent_value p rows r none) (term v) (term k));
+  filled = i.filled;
 }
   where
     cases : (v k : Term) (b : Bool) → same (term v) (element p r) ≡ b → (c : Bool) → same (term k) (key r) ≡ c → further_of ms v k ≡ how_many p (term v) (at rows (term k)) - 1
@@ -81,6 +82,7 @@ pub other_appended : (p : ℕ) (rows : Rows) (r : PlainTerm) (ms ns : List KeyCo
     → IsRaised ms ns (element p r) (key r) → IsFurtherOf (put Bag rows r) p ns
 other_appended p rows r ms ns o absent some i w = record {
   counts = λ v k. w.counts v k ∙ cases v k (same (term v) (element p r)) refl (same (term k) (key r)) refl (i.counts v k) (put_new p rows r o absent (term v) (term k));
+  filled = w.filled i.filled;
 }
   where
     cases : (v k : Term) (b : Bool) → same (term v) (element p r) ≡ b → (c : Bool) → same (term k) (key r) ≡ c → further_of ms v k ≡ how_many p (term v) (at rows (term k)) - 1
@@ -100,6 +102,7 @@ pub put_alone : (p : ℕ) (rows : Rows) (r : PlainTerm) (ms : List KeyCounts) �
 put_alone p rows r ms o i = record {
   counts = λ v k. i.counts v k ∙ ap (λ xs. how_many p (term v) xs - 1) (at-del rows (key r) (term k)) ∙ cases (term v) (term k) (same (key r) (term k))
       ∙ ap (λ xs. how_many p (term v) xs - 1) (sym (at-put-set rows r (term k) o));
+  filled = i.filled;
 }
   where
     cases : (x k : PlainTerm) (b : Bool) → how_many p x (if b then [] else at rows k) - 1 ≡ how_many p x (if b then r ∷ [] else at rows k) - 1
@@ -114,6 +117,7 @@ put_alone p rows r ms o i = record {
 pub put_same : (p : ℕ) (rows : Rows) (r : PlainTerm) (ms : List KeyCounts) → is_ordered rows ≡ true → map (element p) (at rows (key r)) ≡ element p r ∷ [] → IsFurtherOf rows p ms → IsFurtherOf (put Set rows r) p ms
 put_same p rows r ms o only i = record {
   counts = λ v k. i.counts v k ∙ ap (λ n. n - 1) (cases (term v) (term k) (same (key r) (term k)) refl ∙ ap (how_many p (term v)) (sym (at-put-set rows r (term k) o)));
+  filled = i.filled;
 }
   where
     cases : (x k : PlainTerm) (b : Bool) → same (key r) k ≡ b → how_many p x (at rows k) ≡ how_many p x (if b then r ∷ [] else at rows k)
@@ -126,6 +130,7 @@ pub key_gone : (p : ℕ) (rows : Rows) (k : Term) (ms ns : List KeyCounts) → I
 key_gone p rows k ms ns i w = record {
   counts = λ v j. w.counts v j ∙ ap (λ b. if b then 0 else further_of ms v j) (same_sym (term j) (term k)) ∙ cases v j (same (term k) (term j)) (i.counts v j)
       ∙ ap (λ xs. how_many p (term v) xs - 1) (sym (at-del rows (term k) (term j)));
+  filled = w.filled i.filled;
 }
   where
     cases : (v j : Term) (b : Bool) → further_of ms v j ≡ how_many p (term v) (at rows (term j)) - 1 → (if b then 0 else further_of ms v j) ≡ how_many p (term v) (if b then [] else at rows (term j)) - 1
@@ -160,6 +165,7 @@ pub object_gone_from : (p : ℕ) (rows : Rows) (r : Term) (ms ns : List KeyCount
 object_gone_from p rows r ms ns o a there i w = record {
   counts = λ v k. w.counts v k ∙ ap₂ (λ b c. if b && c then further_of ms v k - 1 else further_of ms v k) (same_sym (term v) (element p (term r))) (same_sym (term k) (key (term r)))
       ∙ cases v k (same (element p (term r)) (term v) && same (key (term r)) (term k)) (i.counts v k) (at_deleted p rows r (term v) (term k) o a there);
+  filled = w.filled i.filled;
 }
   where
     cases : (v k : Term) (b : Bool) → further_of ms v k ≡ how_many p (term v) (at rows (term k)) - 1 → how_many p (term v) (at (delete_object rows (term r)) (term k)) + bit b ≡ how_many p (term v) (at rows (term k))

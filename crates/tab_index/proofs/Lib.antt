@@ -5,5 +5,6 @@ pub mod RowsLemmas
 pub mod FurtherRows
 pub mod BoundKeyLemmas
 pub mod IndexedLemmas
+pub mod QueryLemmas
 pub mod PairsLemmas
 pub mod FurtherPairs

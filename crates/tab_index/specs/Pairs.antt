@@ -13,7 +13,7 @@ use Rattle.tab_map.specs.Entries.{Ascends}
 use Rattle.tab_map.specs.KeyList.{KeysAscend}
 use Rattle.tab_model.specs.Tables.{key}
 use Rattle.tab_model.specs.WholeTables.{element}
-use Rattle.tab_index.specs.FurtherOf.{KeyCounts, further_of}
+use Rattle.tab_index.specs.FurtherOf.{KeyCounts, AreFilled, further_of}
 use Rattle.tab_index.specs.IndexOf.{Entry, has_pair, IsFilled, IsWith}
 
 -- a value and a key
@@ -40,6 +40,7 @@ pub record HasPairs (qs : List Pair) (es : List Entry) : Type 0 where
 -- a value and a key have a count of these pairs, less the first
 pub record CountsPairs (qs : List Pair) (ms : List KeyCounts) : Type 0 where
   pub counts : (v k : Term) → further_of ms v k ≡ count_by (λ q. same (term v) q.0 && same (term k) q.1) qs - 1
+  pub filled : AreFilled ms
 
 -- the last entry, if there is one, has such a value, and its keys ascend
 abbrev pub EndsWith : List Entry → (PlainTerm → Type 0) → Type 0

@@ -11,6 +11,7 @@ mod further;
 mod index;
 mod indexes;
 mod matching;
+mod querying;
 mod table;
 
 pub use matching::{bound_key, fits};

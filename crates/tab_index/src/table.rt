@@ -4,7 +4,7 @@ ghost use Rattle.std.specs.Option.{option_copied};
 ghost use Rattle.tab_term.specs.Order.{term_cmp};
 ghost use Rattle.tab_term.specs.View.{term, terms};
 ghost use Rattle.tab_model.specs.Names.{plain_terms};
-ghost use Rattle.tab_model.specs.Tables.{at, apply as apply_in, rows_after as applied_in, is_ordered};
+ghost use Rattle.tab_model.specs.Tables.{at, keys as keys_of_rows, apply as apply_in, rows_after as applied_in, is_ordered};
 ghost use Rattle.tab_model.specs.Definitions.{has_number, with_indexes, add_number, less_number};
 ghost use Rattle.tab_model.specs.Catalogs.{with_rows, with_def};
 ghost use Rattle.tab_rows.specs.Joined.{joined, IsInOrder};
@@ -136,6 +136,13 @@ impl IndexedTable {
         ensures { IfOk result (λ records. records ≡ plain_terms (at self.now.rows (term key.now))) }
     {
         self.rows.read(alloc, key)
+    }
+
+    /// The keys, each once, in ascending order. The list shares the keys with the table, and takes no memory.
+    pub fn keys(&self) -> Result<SharedTerms, AllocError>
+        ensures { IfOk result (λ keys. keys ≡ plain_terms (keys_of_rows self.now.rows)) }
+    {
+        self.rows.keys()
     }
 
     /// The keys of which a record has the value at the position, as a set that shares all with the index. None where the

@@ -14,6 +14,7 @@
 mod ends;
 mod growth;
 mod inbox;
+mod making;
 mod meeting;
 mod naming;
 mod post;
@@ -23,6 +24,7 @@ mod rule;
 
 pub use ends::NewMailbox;
 pub use inbox::Inbox;
+pub use making::mailbox;
 pub use naming::{Host, Naming};
 pub use post::{Channel, ChannelPost};
 pub use prefix::Prefix;

@@ -1,3 +1,4 @@
 pub mod Cells
 pub mod SizeLemmas
 pub mod EntriesLemmas
+pub mod KeysLemmas

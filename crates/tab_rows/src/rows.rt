@@ -6,7 +6,7 @@ ghost use Rattle.tab_map.specs.Entries.{insert_entry};
 ghost use Rattle.tab_term.specs.Order.{term_cmp};
 ghost use Rattle.tab_term.specs.View.{term, terms};
 ghost use Rattle.tab_model.specs.Names.{plain_terms, terms_list};
-ghost use Rattle.tab_model.specs.Tables.{apply, at, key as key_of_row, put as put_in, delete as delete_in, delete_object as delete_object_in};
+ghost use Rattle.tab_model.specs.Tables.{apply, at, key as key_of_row, keys as keys_of_rows, put as put_in, delete as delete_in, delete_object as delete_object_in};
 ghost use Rattle.tab_model.specs.OnlyRecords.{IsOnly, record_in};
 ghost use Rattle.tab_rows.specs.Joined.{joined, IsInOrder};
 
@@ -15,7 +15,7 @@ use crate::entries::entry_of;
 use crate::update::{Form, Update};
 use std::alloc::{AllocError, Global};
 use std::marker::Model;
-use tab_lists::SharedTerms;
+use tab_lists::{SharedTerms, Snapshot};
 use tab_map::{Entry, Iter, Map};
 use tab_model::{Change, Kind, OnlyRecord, copy_of_key};
 use tab_records::Records;
@@ -159,6 +159,14 @@ impl Rows {
             Some(entry) => Ok(SharedTerms::from_entry(entry.try_clone()?)),
             None => Ok(SharedTerms::from_terms(Terms::from_vec(Vec::new(alloc)))),
         }
+    }
+
+    /// The keys, each once, in ascending order. The list shares the keys with this, and takes no memory.
+    pub fn keys(&self) -> Result<SharedTerms, AllocError>
+        ensures { IfOk result (λ keys. keys ≡ plain_terms (keys_of_rows self.now.1)) }
+    {
+        let records = self.records.share()?;
+        Ok(SharedTerms::from_keys(Snapshot::new(Map::new(), records)))
     }
 
     /// Makes a change. A set takes the entry that a record has already, and copies nothing. Other records are lent as to `put`.

@@ -1,19 +1,14 @@
 -- The records at an index's keys and at the touched ones: among them are all that the transaction sees with the value.
-use Rattle.std.proofs.Common.{◌≡◌, ℕ, List, [], ◌∷◌, Bool, true, false, refl, sym, ap, ◌∙◌, subst, Option, Some, None, Ordering, Less, Equal, Greater}
-use Rattle.std.specs.Prelude.{if◌then◌else◌}
+use Rattle.std.proofs.Common.{◌≡◌, ℕ, List, Bool, true, false, refl, sym, ap, ◌∙◌, subst, Option, Some, None}
 use Rattle.std.specs.List.{filter}
-use Rattle.std.specs.Ordering.{match_ordering}
 use Rattle.tab_term.specs.declared.term.Term.{Term}
 use Rattle.tab_term.specs.Data.{PlainTerm, PlainTerms}
 use Rattle.tab_term.specs.Order.{term_cmp}
-use Rattle.tab_term.specs.OrderLaws.{canon_same}
 use Rattle.tab_term.specs.View.{term}
-use Rattle.tab_term.proofs.Total.{term_total}
-use Rattle.tab_map.specs.Entries.{lookup, Ascends, AllAbove}
+use Rattle.tab_map.specs.Entries.{lookup, Ascends}
 use Rattle.tab_map.specs.KeyList.{contains_key, KeysAscend}
-use Rattle.tab_records.proofs.LookUps.{lookup_above, below_all, at_all}
-use Rattle.tab_lists.specs.ByKey.{entry_onto, at_keys}
-use Rattle.tab_lists.proofs.MergedLemmas.{above_keys, ascends_keys, ascends_merged}
+use Rattle.tab_lists.specs.ByKey.{at_keys}
+use Rattle.tab_lists.proofs.MergedLemmas.{ascends_keys, ascends_merged}
 use Rattle.tab_model.specs.Names.{terms_list}
 use Rattle.tab_model.specs.Shapes.{term_value}
 use Rattle.tab_model.specs.Tables.{Rows, has_key, at}
@@ -21,49 +16,13 @@ use Rattle.tab_model.specs.WholeTables.{index_read}
 use Rattle.tab_model.proofs.ShapeLaws.{held_term, term_held}
 use Rattle.tab_model.proofs.TableLaws.{same_lists, ordered-filter}
 use Rattle.tab_index.specs.IndexOf.{has_value, AreKeysWith}
+use Rattle.tab_index.proofs.QueryLemmas.{none_left, swapped, found_at, lookup_keys}
 use Rattle.tab_rows.specs.Joined.{joined, AllKeyed, IsInOrder}
 use Rattle.tab_rows.proofs.Cells.{found_in, at-joined, ordered-joined}
 use Rattle.tab_txstore.specs.Overlays.{Touched, or_committed}
 use Rattle.tab_txstore.specs.Merged.{merged, IsSeen}
-use Rattle.tab_txstore.proofs.FilterLemmas.{none_left, swapped}
 use Rattle.tab_txstore.proofs.MatchLemmas.{joined_filled}
 use Rattle.tab_txstore.proofs.MergedLemmas.{or_else, lookup_both, filled, ascends_filled, lookup_filled, keyed_by}
-
--- ---- some of a table's keys
-
-one_key : (j k : Term) → term_cmp j k ≡ Equal → j ≡ k
-one_key j k e = sym (held_term j) ∙ ap term_value (canon_same (term j) (term k) e) ∙ held_term k
-
--- what is found at a key, where it is one of these
-abbrev found_at : Bool → Option PlainTerms → Option PlainTerms
-found_at b o = if b then o else None
-
-lookup_keys : (ks : List Term) (es : Touched) (q : Term) → KeysAscend term_cmp ks → lookup term_cmp q (at_keys ks es) ≡ found_at (contains_key term_cmp q ks) (lookup term_cmp q es)
-lookup_keys [] es q s = refl
-lookup_keys (k ∷ ks) es q s = cases (lookup_keys ks es q s.1) (lookup term_cmp k es) refl (term_cmp q k) refl
-  where
-    low : AllAbove term_cmp k (at_keys ks es)
-    low = above_keys k ks es s.0
-
-    below : term_cmp q k ≡ Less → lookup term_cmp q (at_keys ks es) ≡ None
-    below e = lookup_above term_total q (at_keys ks es) (below_all term_total q k (at_keys ks es) e low)
-
-    here : term_cmp q k ≡ Equal → lookup term_cmp q (at_keys ks es) ≡ None
-    here e = lookup_above term_total q (at_keys ks es) (at_all term_total q k (at_keys ks es) e low)
-
-    there : (o : Option PlainTerms) → lookup term_cmp k es ≡ o → term_cmp q k ≡ Equal → lookup term_cmp q es ≡ o
-    there o h e = ap (λ j. lookup term_cmp j es) (one_key q k e) ∙ h
-
-    cases : lookup term_cmp q (at_keys ks es) ≡ found_at (contains_key term_cmp q ks) (lookup term_cmp q es) → (o : Option PlainTerms) → lookup term_cmp k es ≡ o → (c : Ordering) → term_cmp q k ≡ c
-        → lookup term_cmp q (entry_onto k o (at_keys ks es)) ≡ found_at (match_ordering c false true (contains_key term_cmp q ks)) (lookup term_cmp q es)
-    cases ih None h Less e = below e
-    cases ih None h Equal e = here e ∙ sym (there None h e)
-    cases ih None h Greater e = ih
-    cases ih (Some ts) h Less e = ap (λ c. match_ordering c None (Some ts) (lookup term_cmp q (at_keys ks es))) e
-    cases ih (Some ts) h Equal e = ap (λ c. match_ordering c None (Some ts) (lookup term_cmp q (at_keys ks es))) e ∙ sym (there (Some ts) h e)
-    cases ih (Some ts) h Greater e = ap (λ c. match_ordering c None (Some ts) (lookup term_cmp q (at_keys ks es))) e ∙ ih
-
--- ---- records
 
 module _ (xs es : Touched) (ks : List Term) (seen : Rows) (p : ℕ) (x : PlainTerm) (o : IsInOrder es) (s : Ascends term_cmp xs) (t : KeysAscend term_cmp ks) (keys : AreKeysWith (joined es) p x ks) (h : IsSeen xs (joined es) seen) where
   abbrev whole : Touched

@@ -1,41 +1,27 @@
 -- The merged walk: what comes next, and that it is the table as the transaction sees it.
-use Rattle.std.proofs.Common.{◌≡◌, [], ◌∷◌, ◌++◌, Bool, true, false, not, refl, sym, ap, ◌∙◌, subst, Option, Some, None, Ordering, Less, Equal, Greater}
+use Rattle.std.proofs.Common.{◌≡◌, [], ◌∷◌, Bool, true, false, refl, sym, ap, ◌∙◌, subst, Option, Some, None, Ordering, Less, Equal, Greater}
 use Rattle.std.specs.Prelude.{if◌then◌else◌}
-use Rattle.std.specs.List.{filter, list_all}
-use Rattle.std.specs.Option.{option_copied}
-use Rattle.std.specs.Ordering.{match_ordering, ordering_reverse}
-use Rattle.std.specs.Cmp.{IsTotalOrder}
-use Rattle.std.proofs.lemmas.Bool.{and_from, and_parts}
+use Rattle.std.specs.List.{list_all}
+use Rattle.std.specs.Ordering.{match_ordering}
+use Rattle.std.proofs.lemmas.Bool.{and_from}
 use Rattle.tab_term.specs.declared.term.Term.{Term}
 use Rattle.tab_term.specs.Data.{PlainTerm, PlainTerms, none, one_more}
 use Rattle.tab_term.specs.Order.{term_cmp}
-use Rattle.tab_term.specs.Same.{same}
 use Rattle.tab_term.specs.View.{term}
 use Rattle.tab_term.proofs.Total.{term_total}
 use Rattle.tab_map.specs.Entries.{lookup, AllAbove, Ascends}
 use Rattle.tab_lists.proofs.MergedLemmas.{ascends_merged}
-use Rattle.tab_rows.specs.Joined.{joined, IsKeyed, AllKeyed, IsInOrder}
+use Rattle.tab_rows.specs.Joined.{joined, AllKeyed, IsInOrder}
 use Rattle.tab_records.proofs.LookUps.{lookup_insert, lookup_above, below_all, at_all}
 use Rattle.tab_rows.proofs.Cells.{at-joined, ordered-joined, found_in}
+use Rattle.tab_rows.proofs.KeysLemmas.{plain_keys, keys_joined}
 use Rattle.tab_model.specs.Names.{terms_list}
 use Rattle.tab_model.specs.Tables.{Rows, key, has_key, at, keys}
 use Rattle.tab_model.specs.Shapes.{term_value}
 use Rattle.tab_model.proofs.ShapeLaws.{held_term, term_held}
-use Rattle.tab_model.proofs.TableLaws.{same_true, same_refl, same_lists}
+use Rattle.tab_model.proofs.TableLaws.{same_lists}
 use Rattle.tab_txstore.specs.Overlays.{Touched, or_committed}
 use Rattle.tab_txstore.specs.Merged.{merged, is_filled, filled_keys, IsSeen}
-
--- the keys of entries
-abbrev plain_keys : Touched → Rows
-plain_keys [] = []
-plain_keys (e ∷ es) = term e.0 ∷ plain_keys es
-
-apart_keys : (k j : Term) → term_cmp k j ≡ Less → same (term k) (term j) ≡ false
-apart_keys k j h = cases (same (term k) (term j)) refl
-  where
-    cases : (b : Bool) → same (term k) (term j) ≡ b → b ≡ false
-    cases false e = refl
-    cases true e = let n : Less ≡ Equal = sym h ∙ ap (λ z. Rattle.std.specs.Cmp.Lexicographic.slice_cmp Rattle.std.specs.Ordering.nat_cmp (Rattle.tab_term.specs.Canon.canon (term k)) (Rattle.tab_term.specs.Canon.canon z)) (sym (same_true (term k) (term j) e)) ∙ Rattle.std.proofs.lemmas.Cmp.tied_itself term_total k in cc
 
 -- ---- it is the table as the transaction sees it
 
@@ -163,28 +149,6 @@ seen_merged xs es seen s o h = (same_lists (joined (filled (merged xs es))) seen
     cells k = subst (λ (j : PlainTerm). at (joined (filled (merged xs es))) j ≡ at seen j) (term_held k) (cells_at (term_value k))
 
 -- ---- its keys
-
-keys_apart : (k : Term) (es : Touched) → AllAbove term_cmp k es → filter (λ j. not (same (term k) j)) (plain_keys es) ≡ plain_keys es
-keys_apart k [] a = refl
-keys_apart k (e ∷ es) a = ap (λ b. if not b then term e.0 ∷ filter (λ j. not (same (term k) j)) (plain_keys es) else filter (λ j. not (same (term k) j)) (plain_keys es)) (apart_keys k e.0 a.0) ∙ ap (λ z. term e.0 ∷ z) (keys_apart k es a.1)
-
-keys_part : (k : Term) (x : PlainTerm) (xs : Rows) (es : Touched) → list_all (has_key (term k)) (x ∷ xs) ≡ true → AllAbove term_cmp k es → keys (joined es) ≡ plain_keys es → keys (x ∷ xs ++ joined es) ≡ term k ∷ plain_keys es
-keys_part k x [] es h a e =
-    let p = and_parts (has_key (term k) x) true h in
-    ap (λ z. z ∷ filter (λ j. not (same z j)) (keys (joined es))) (same_true (key x) (term k) p.0) ∙ ap (λ z. term k ∷ filter (λ j. not (same (term k) j)) z) e ∙ ap (λ z. term k ∷ z) (keys_apart k es a)
-keys_part k x (y ∷ xs) es h a e =
-    let p = and_parts (has_key (term k) x) (list_all (has_key (term k)) (y ∷ xs)) h in
-    ap (λ z. z ∷ filter (λ j. not (same z j)) (keys (y ∷ xs ++ joined es))) (same_true (key x) (term k) p.0) ∙ ap (λ z. term k ∷ filter (λ j. not (same (term k) j)) z) (keys_part k y xs es p.1 a e)
-    ∙ ap (λ b. term k ∷ (if not b then term k ∷ filter (λ j. not (same (term k) j)) (plain_keys es) else filter (λ j. not (same (term k) j)) (plain_keys es))) (same_refl (term k))
-    ∙ ap (λ z. term k ∷ z) (keys_apart k es a)
-
-keys_first : (e : Term × PlainTerms) (es : Touched) (rs : Rows) → terms_list e.1 ≡ rs → IsKeyed e → AllAbove term_cmp e.0 es → keys (joined es) ≡ plain_keys es → keys (rs ++ joined es) ≡ term e.0 ∷ plain_keys es
-keys_first e es [] h k a f = absurd (k.filled h)
-keys_first e es (x ∷ xs) h k a f = keys_part e.0 x xs es (ap (list_all (has_key (term e.0))) (sym h) ∙ k.keyed) a f
-
-keys_joined : (es : Touched) → Ascends term_cmp es → AllKeyed es → keys (joined es) ≡ plain_keys es
-keys_joined [] s k = refl
-keys_joined (e ∷ es) s k = keys_first e es (terms_list e.1) refl k.0 s.0 (keys_joined es s.1 k.1)
 
 filled_plain : (es : Touched) → filled_keys es ≡ plain_keys (filled es)
 filled_plain [] = refl

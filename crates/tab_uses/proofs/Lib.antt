@@ -1,2 +1,3 @@
 pub mod MirrorsLemmas
+pub mod OutboxesLemmas
 pub mod SpellingLemmas

@@ -3,3 +3,5 @@ pub mod Payloads
 pub mod Replies
 pub mod Mirrors
 pub mod Endings
+pub mod Tables
+pub mod Outboxes

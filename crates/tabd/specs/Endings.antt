@@ -8,8 +8,8 @@ use Rattle.tab_session.specs.declared.ended.Ended.{Ended}
 use Rattle.tab_session.specs.declared.ended.Ended.TheVariants.{Damaged, Device, TooLong, NoMemory}
 use Rattle.tabd.specs.declared.ending.End.{End}
 use Rattle.tabd.specs.declared.ending.End.TheVariants.{Done, WrongWords, Stopped}
-use Rattle.tabd.specs.declared.words.Run.{Run}
-use Rattle.tabd.specs.declared.words.Run.TheVariants.{Replay, Serve}
+use Rattle.tab_words.specs.declared.parsing.Run.{Run}
+use Rattle.tab_words.specs.declared.parsing.Run.TheVariants.{Replay, Serve}
 
 -- 0: done, or help was asked for; 1: device, too long or no memory; 2: wrong words; 3: damaged input
 abbrev pub status_of : End → ℕ

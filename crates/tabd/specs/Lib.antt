@@ -1,5 +1,2 @@
-pub mod Asked
-pub mod CommandLine
 pub mod Endings
 pub mod Served
-pub mod Words

@@ -4,7 +4,7 @@ use Rattle.tab_model.specs.declared.data.Limits.{Limits}
 use Rattle.tab_model.specs.History.{empty}
 use Rattle.tab_model.specs.State.{new}
 use Rattle.tab_book.specs.Running.{Running}
-use Rattle.tabd.specs.declared.serving.Service.{Service}
+use Rattle.tab_words.specs.declared.serving.Service.{Service}
 
 -- one that serves for good has no session beside its connections
 abbrev pub sessions_of : Service → ℕ

@@ -6,18 +6,10 @@ use std::net::{Net, TcpListener, TcpStream};
 use std::os::fd::{AsRawFd, RawFd};
 use std::rt::Files;
 use tab_server::Listener;
+use tab_words::Address;
 
 /// The greatest number of a standard stream.
 const STANDARD_ERROR: RawFd = 2;
-
-/// Where clients are to connect.
-#[derive(Drop)]
-pub enum Address {
-    /// A port of 127.0.0.1; 0 lets the system choose one.
-    Port(u16),
-    /// The path of a socket file.
-    Socket(String),
-}
 
 /// Where a listener is.
 #[derive(Drop)]

@@ -7,15 +7,7 @@ use std::time::Clock;
 use tab_etf::{Target, give_all};
 use tab_metrics::{Holdings, Meters, Paged, page_of};
 use tab_server::{Count, Counts, Gate, Note, Notes};
-
-/// What of a server's notes has a line.
-#[derive(Clone, Copy, Debug, PartialEq, Eq)]
-pub enum Log {
-    /// What keeps it from serving, and whom it ends.
-    Brief,
-    /// Each session's start and end too, and why the server ends.
-    Full,
-}
+use tab_words::Log;
 
 /// A device for lines, of which each is whole.
 #[derive(Drop)]

@@ -2,16 +2,14 @@
 #![tactic(auto)]
 
 mod address;
-mod command_line;
 mod ending;
 mod lines;
 mod opening;
 mod running;
 mod serving;
 mod socket_file;
-mod words;
 
-use lines::{Lines, Log};
+use lines::Lines;
 use running::run;
 use std::marker::Brand;
 use std::process::ExitCode;
@@ -19,7 +17,7 @@ use tab_etf::Counted;
 use tab_metrics::Meters;
 use tab_post::Opened;
 use tab_session::{Ended, replay};
-use words::{Run, asked};
+use tab_words::{Log, Run, asked};
 
 fn main(rt: HostRuntime) -> ExitCode {
     let mut input = Counted::new(rt.stdin());

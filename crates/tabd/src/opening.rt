@@ -3,11 +3,11 @@
 ghost use Rattle.std.specs.Prelude.{◌≡◌, ◌≤◌, IfOk};
 ghost use Rattle.tabd.specs.Served.{book_of, limits_of, sessions_of};
 
-use crate::serving::Service;
 use std::alloc::{AllocError, Global};
 use tab_book::Book;
 use tab_model::Limits;
 use tab_post::{Channel, Host, Opened};
+use tab_words::Service;
 
 /// No tables and no sessions, and the limits that the words and the program set.
 pub fn opened_book<H: Host>(

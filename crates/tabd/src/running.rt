@@ -8,7 +8,6 @@ ghost use Rattle.tabd.specs.Endings.{OfRun, IsShown, IsTextFault, OnStreams, Pla
 
 use crate::ending::{End, end_of_replay, end_of_words, line_of, status_of};
 use crate::serving::listen;
-use crate::words::Run;
 use crate::{Ended, replay};
 use clap::Error;
 use std::alloc::Global;
@@ -21,6 +20,7 @@ use tab_etf::{Source, Target, give_all};
 use tab_metrics::Paged;
 use tab_post::{Channel, Naming, Opened};
 use tab_server::{Gate, Notes};
+use tab_words::Run;
 
 /// Does what the words ask for, and gives the program's exit status. On the errors stands the line of this end and nothing
 /// else, but that of wrong words the parser's text stands there. Its text of what was asked for, as help, is put on the output.

@@ -1,12 +1,11 @@
 //! A run of the server.
 
-ghost use Rattle.std.specs.Prelude.{◌≡◌, ◌≤◌, ◌*◌, option_map};
+ghost use Rattle.std.specs.Prelude.{◌≡◌, ◌*◌, option_map};
 ghost use Rattle.std.specs.Duration.{as_nanos};
 
 use crate::Ended;
-use crate::address::{Address, Place, listen_at, listen_on};
+use crate::address::{Place, listen_at, listen_on};
 use crate::ending::End;
-use crate::lines::Log;
 use crate::opening::opened_book;
 use std::alloc::{AllocError, Global};
 use std::marker::PhantomData;
@@ -21,33 +20,7 @@ use tab_etf::{Target, give_all};
 use tab_metrics::{Closing, Paged, serve_pages};
 use tab_post::{Channel, Host, Naming, Opened};
 use tab_server::{Delivery, Gate, Listener, Notes, Settings, serve, serve_forever};
-
-/// What a server is given: how many connections it accepts, how many items wait for a session, how many entries stand.
-#[derive(Clone, Copy)]
-pub struct Sizes {
-    pub connections: u32,
-    pub outbox: u32,
-    pub journal: u32,
-    ghost seats: { connections ≤ 64 },
-    ghost outbox_room: { 1 ≤ outbox },
-    ghost journal_room: { 1 ≤ journal },
-}
-
-/// How the server is run.
-#[derive(Clone, Copy)]
-pub struct Service {
-    pub sizes: Sizes,
-    /// A connection that ends makes room for another.
-    pub forever: bool,
-    pub delivery: Delivery,
-    /// So many seconds a session may be idle.
-    pub idle: Option<u32>,
-    pub log: Log,
-    /// The port where the counters are asked for; 0 lets the system choose one.
-    pub metrics: Option<u16>,
-    /// An abort ends the wait of the operation before it, which is told nothing then.
-    pub aborts: bool,
-}
+use tab_words::{Address, Service};
 
 /// How connections are served, by what the words say.
 fn settings(delivery: Delivery, idle: Option<u32>, aborts: bool) -> Settings

@@ -19,4 +19,4 @@ returns c =
     let v = c.args.value.now in
     let n = c.args.count in
     IfOk-weaker c.inserted.result (λ ds. ds ≡ insert_entry term_cmp (c.in_ok-try_clone.field-0, n) cs) (λ ds. HasCount cs ds v n)
-    (λ ds is. count_put cs ds v n c.requires (is ∙ ap (λ x. insert_entry term_cmp (x, n) cs) c.in_ok-try_clone.ensures)) c.inserted.ensures
+    (λ ds is. count_put cs ds v n c.requires c.if-count-eq0.false (is ∙ ap (λ x. insert_entry term_cmp (x, n) cs) c.in_ok-try_clone.ensures)) c.inserted.ensures

@@ -64,7 +64,8 @@ returns-clause-lowered c =
     let ds = c.in_ok-left.left in
     let found = ap option_copied (sym c.in-Some.is) ∙ c.get.ensures.value in
     subst (λ ns. IsLowered ms ns (term v) (term k)) (sym (c.in_ok-insert.ensures.ok ∙ ap (λ x. insert_entry term_cmp (x, ds) ms) c.in_ok-try_clone.ensures))
-    (lowered ms v k c.in-Some.counts.now ds _ c.get.ensures.ascends (ap counts_in found) (ap (λ n. n - 1) c.count_in-count.ensures.count) c.in_ok-left.ensures)
+    (lowered ms v k c.in-Some.counts.now ds _ c.get.ensures.ascends (ap counts_in found) (ap (λ n. n - 1) c.count_in-count.ensures.count) c.in_ok-left.ensures
+    (λ e. false≢true (sym c.if-is_empty.false ∙ c.is_empty.ensures.empty.1 e)))
 
 pub returns-clause-further : goal.returns-clause-further
 returns-clause-further c =
