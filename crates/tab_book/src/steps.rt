@@ -2,10 +2,10 @@
 
 ghost use Rattle.std.specs.Prelude.{◌≡◌, ◌≢◌, ◌<◌, ◌&&◌, [], IsTrue, IsFalse, IfOk, IfSome, IsOk, MatchOption, OnOk, OnErr, is_some, length};
 ghost use Rattle.tab_model.specs.declared.data.Reply.TheVariants.{Restart};
-ghost use Rattle.tab_model.specs.State.{IsSound, is_waiting, transaction_at};
+ghost use Rattle.tab_model.specs.State.{Outbox, is_waiting, transaction_at};
 ghost use Rattle.tab_model.specs.Run.{entries};
 ghost use Rattle.tab_model.specs.Standing.{may_enter as may_enter_of};
-ghost use Rattle.tab_core.specs.Runs.{StepsTo as StepsCore};
+ghost use Rattle.tab_core.specs.Runs.{ask_of as asked_of};
 ghost use Rattle.tab_core.specs.Steps.{takes_no_memory};
 ghost use Rattle.tab_book.specs.Releases.{is_retry, SaysReleases};
 ghost use Rattle.tab_book.specs.Running.{IsRunning};
@@ -15,10 +15,9 @@ ghost use Rattle.tab_book.specs.Steps.{ask_of, leaves as leaves_of, folded, olde
 use crate::book::Book;
 use crate::step::{Answered, Step};
 use std::alloc::AllocError;
-use tab_core::{Core, Stepped};
+use tab_core::Stepped;
 use tab_journal::Journal;
 use tab_model::{Command, Entry, Reply, SharedReply};
-use tab_outbox::Post;
 use tab_post::Host;
 
 /// What a session holds others up by: a transaction that is open, and a request that is queued.
@@ -131,7 +130,7 @@ impl<H: Host> Book<H> {
         ensures posts { KeepsPosts self.old.state self.new.state }
     {
         let leaves = self.leaves(session, &step);
-        let stepped = core_step(&mut self.core, session, step)?;
+        let stepped = self.core.step(session, asked(step))?;
         let reply = entered(&mut self.journal, stepped);
         if leaves {
             self.journal.forget(session as u64);
@@ -193,22 +192,16 @@ fn retries(step: &Step) -> bool
     matches!(step, Step::Retry)
 }
 
-/// The core makes the step by the call that is for it.
-fn core_step<P: Post + Drop>(
-    core: &mut Core<P>,
-    session: u32,
-    step: Step,
-) -> Result<Stepped, AllocError>
-    ensures done { IfOk result (λ s. StepsCore core.old session (ask_of step) s core.new) }
-    ensures free { IsTrue (takes_no_memory core.old session (ask_of step)) → IsOk result }
-    ensures err { OnErr result (core.new ≡ core.old) }
-    ensures sound { IsSound core.new }
+/// The step as the core is asked it. No step of a book joins a session.
+fn asked<P>(step: Step) -> tab_core::Step<P>
+    ensures { (f : P → Outbox) → asked_of f result ≡ ask_of step }
 {
     match step {
-        Step::Leave => Ok(core.leave(session)),
-        Step::Retry => core.retry(session),
-        Step::Take => Ok(core.take(session)),
-        Step::Do(command) => core.command(session, command),
+        Step::Join(none) => match none {},
+        Step::Leave => tab_core::Step::Leave,
+        Step::Retry => tab_core::Step::Retry,
+        Step::Take => tab_core::Step::Take,
+        Step::Do(command) => tab_core::Step::Do(command),
     }
 }
 

@@ -1,6 +1,7 @@
 -- A run goes on by one step; and whatever log led to its first state goes on with the run's.
 use Rattle.std.proofs.Common.{◌≡◌, ℕ, List, [], ◌∷◌, ◌++◌, refl, sym, ap, subst, ◌∙◌, inl, inr, append_assoc, append-nil, true}
-use Rattle.std.specs.Prelude.{Bool, false, ◌==◌, if◌then◌else◌}
+use Rattle.std.specs.Prelude.{Bool, false, ◌==◌, if◌then◌else◌, Result, Ok, Err, IfOk}
+use Rattle.std.specs.declared.alloc.AllocError.{AllocError}
 use Rattle.tab_model.specs.declared.data.Entry.{Entry}
 use Rattle.tab_model.specs.declared.data.Item.{Item}
 use Rattle.tab_model.specs.declared.data.Reply.{Reply}
@@ -72,6 +73,12 @@ step_takes σ μ a r es log taken (inr (takes, rp, en, st)) empty sound tied = (
   subst IsSound (sym st) sound,
   subst (λ (l : List Entry). IsTied μ (log ++ l) (λ m. taken m ++ delivered_by m a.0 r)) (sym en) (quiet_tied σ μ a.0 r log taken st (ap item_of rp) tied),
 )
+
+-- whatever history led to the state before a step goes on with the step's entry and what it took
+pub step_goes_on : (σ μ : State) (n : ℕ) (a : Ask) (r : Result Stepped AllocError) → IfOk r (λ s. StepsTo σ n a s μ) → IsSound σ
+    → IfOk r (λ s. JoinsEmpty a → (log : List Entry) (taken : ℕ → List Item) → IsTied σ log taken → IsTied μ (log ++ entries s.entry) (λ m. taken m ++ delivered_by m n s.reply))
+step_goes_on σ μ n a (Ok s) made sound = λ empty log taken tied. (step_takes σ μ (n, a) s.reply (entries s.entry) log taken (takes_of σ μ n a s made) empty sound tied).1
+step_goes_on σ μ n a (Err e) made sound = tt
 
 -- what every reached state has
 step_keeps : (σ μ : State) (a : ℕ × Ask) (r : Reply) (es : List Entry) → StepsOrNoMemory σ a r es μ → IsSound σ → IsRising σ → IsSound μ × IsRising μ

@@ -11,7 +11,7 @@ ghost use Rattle.tab_model.specs.declared.data.Item.{Item as ItemOf};
 ghost use Rattle.tab_model.specs.State.{new, IsSound};
 ghost use Rattle.tab_model.specs.Reached.{IsRising};
 ghost use Rattle.tab_model.specs.declared.ask.Ask.TheVariants.{Do as DoCommand};
-ghost use Rattle.tab_model.specs.Run.{IsTied};
+ghost use Rattle.tab_model.specs.Run.{IsTied, JoinsEmpty, delivered_by, entries};
 ghost use Rattle.tab_core.specs.Runs.{ask_of, asks_of, AllJoinEmpty, StepsTo, StepsOrNoMemory, RunsTo, taken_in};
 ghost use Rattle.tab_core.specs.Steps.{takes_no_memory};
 
@@ -78,18 +78,26 @@ impl<P: Post + Drop> Core<P> {
         }
     }
 
-    /// One step of a session, whole or, where memory that it takes is refused, not at all.
+    /// One step of a session, whole or, if memory that it takes is refused, not at all. A session joins with an empty post.
+    ///
+    /// The entries of all steps so far, and what each session took, give the tables again (`IsTied`), from before the step to after it.
     pub fn step(&mut self, session: u32, step: Step<P>) -> Result<Stepped, AllocError>
         ensures done { IfOk result
             (λ s. StepsTo self.old session (ask_of P.outbox step) s self.new) }
+        ensures tied { IfOk result
+            (λ s. JoinsEmpty (ask_of P.outbox step)
+            → (earlier : List EntryOf) (taken : ℕ → List ItemOf) → IsTied self.old earlier taken
+            → IsTied self.new (earlier ++ entries s.entry)
+            (λ m. taken m ++ delivered_by m session s.reply)) }
         ensures free { IsTrue (takes_no_memory self.old session (ask_of P.outbox step))
             → IsOk result }
         ensures err { OnErr result (self.new ≡ self.old) }
         ensures sound { IsSound self.new }
         ensures rising { IsRising self.new }
     {
+        // Known of the core is that it is sound, before the step and after it.
+        let _ = &self.machine;
         let stepped = self.make(session, step);
-        // Known of the core from here on is that it is sound.
         let _ = &self.machine;
         stepped
     }
@@ -110,24 +118,18 @@ impl<P: Post + Drop> Core<P> {
         }
     }
 
-    /// A command of the session, whole or, where memory that it takes is refused, not at all.
-    pub fn command(&mut self, session: u32, command: Command) -> Result<Stepped, AllocError>
+    fn command(&mut self, session: u32, command: Command) -> Result<Stepped, AllocError>
         ensures done { IfOk result (λ s. StepsTo self.old session (DoCommand command) s self.new) }
         ensures free { IsTrue (takes_no_memory self.old session (DoCommand command)) → IsOk result }
         ensures err { OnErr result (self.new ≡ self.old) }
-        ensures sound { IsSound self.new }
-        ensures rising { IsRising self.new }
     {
-        let stepped = match command {
+        match command {
             Command::Commit => self.commit(session),
             Command::Schema(schema) => self.schema(session, schema),
             Command::Subscribe(table, level, dump) => self.subscribe(session, table, level, dump),
             Command::Unsubscribe(table, level) => self.unsubscribe(session, table, level),
             command => self.machine.command(session, command),
-        };
-        // Known of the core from here on is that it is sound.
-        let _ = &self.machine;
-        stepped
+        }
     }
 
     /// Steps in order, with their replies; a step refused for memory has the reply NoMemory. The answer is

@@ -1,8 +1,6 @@
 //! Sessions join, take and leave.
 
 ghost use Rattle.std.specs.Prelude.{◌≡◌, IsTrue, IfOk, IsOk, OnErr};
-ghost use Rattle.tab_model.specs.State.{IsSound};
-ghost use Rattle.tab_model.specs.Reached.{IsRising};
 ghost use Rattle.tab_model.specs.declared.ask.Ask.TheVariants.{Join, Leave, Retry, Take};
 ghost use Rattle.tab_core.specs.Runs.{StepsTo};
 ghost use Rattle.tab_core.specs.Steps.{takes_no_memory};
@@ -27,30 +25,24 @@ impl<P: Post + Drop> Core<P> {
     }
 
     /// The session's transaction, locks, request, subscriptions and post are gone. Takes no memory.
-    pub fn leave(&mut self, session: u32) -> Stepped
+    pub(crate) fn leave(&mut self, session: u32) -> Stepped
         ensures done { StepsTo self.old session Leave result self.new }
-        ensures sound { IsSound self.new }
-        ensures rising { IsRising self.new }
     {
         self.machine.leave(session)
     }
 
-    /// The session asks again for the lock that it waits for: whole or, where memory that it takes is refused, not at all.
-    pub fn retry(&mut self, session: u32) -> Result<Stepped, AllocError>
+    /// The session asks again for the lock that it waits for: whole or, if memory that it takes is refused, not at all.
+    pub(crate) fn retry(&mut self, session: u32) -> Result<Stepped, AllocError>
         ensures done { IfOk result (λ s. StepsTo self.old session Retry s self.new) }
         ensures free { IsTrue (takes_no_memory self.old session Retry) → IsOk result }
         ensures err { OnErr result (self.new ≡ self.old) }
-        ensures sound { IsSound self.new }
-        ensures rising { IsRising self.new }
     {
         self.machine.retry(session)
     }
 
-    /// The next item of the session's post, else an overflow that it was not told yet. Takes no memory.
-    pub fn take(&mut self, session: u32) -> Stepped
+    /// The next item of the session's post, else an overflow that is not reported yet. Takes no memory.
+    pub(crate) fn take(&mut self, session: u32) -> Stepped
         ensures done { StepsTo self.old session Take result self.new }
-        ensures sound { IsSound self.new }
-        ensures rising { IsRising self.new }
     {
         let taken = self.machine.sessions.take(session as u64);
         taken_reply(taken)

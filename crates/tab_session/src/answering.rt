@@ -3,6 +3,8 @@
 ghost use Rattle.std.specs.Prelude.{◌≡◌, ◌++◌, ◌⊎◌, ℕ, [], MatchOption, MatchResult, OnOk, OnErr};
 ghost use Rattle.tab_term.specs.View.{term};
 ghost use Rattle.tab_model.specs.declared.ask.Ask.TheVariants.{Join, Do as DoCommand};
+ghost use Rattle.tab_core.specs.Runs.{ask_of};
+ghost use Rattle.tab_outbox.specs.Posts.{as_outbox};
 ghost use Rattle.tab_oneshot.specs.OneShots.{is_one_shot as is_one_shot_command};
 ghost use Rattle.tab_session.specs.StepsMade.{IsJoinRefused, JoinTakesMemory, StepMadeOrRefused};
 ghost use Rattle.tab_session.specs.AnsweredPayloads.{IsNumberOf, Answered, AnsweredTerm, RefusedTerm, RepliesTo, answer_frame, empty_post};
@@ -11,7 +13,7 @@ ghost use Rattle.tab_session.specs.Replays.{Handed, OneFault};
 use crate::one_session::drive;
 use crate::{Answer, Ended};
 use std::alloc::{AllocError, Global};
-use tab_core::{Core, Stepped};
+use tab_core::{Core, Step, Stepped};
 use tab_etf::{EtfFault, FrameFault, Target, decode};
 use tab_model::{Ask, Command, Limit, Reply, SharedReply};
 use tab_outbox::RingPost;
@@ -80,9 +82,9 @@ fn reply_to(
 {
     match request {
         Ask::Join(()) => join(core, alloc, outbox, session),
-        Ask::Leave => core.leave(session).into_reply(),
-        Ask::Retry => reply_of(core.retry(session)),
-        Ask::Take => core.take(session).into_reply(),
+        Ask::Leave => reply_to_step(core, session, Ask::Leave),
+        Ask::Retry => reply_to_step(core, session, Ask::Retry),
+        Ask::Take => reply_to_step(core, session, Ask::Take),
         Ask::Do(command) => reply_to_command(core, alloc, session, command),
     }
 }
@@ -95,7 +97,7 @@ fn join(core: &mut Core<RingPost>, alloc: Global, outbox: usize, session: u32) -
         return SharedReply::new(refusal);
     }
     match RingPost::with_capacity(alloc, outbox) {
-        Ok(post) => reply_of(core.step(session, Ask::Join(post))),
+        Ok(post) => reply_to_step(core, session, Ask::Join(post)),
         Err(_) => SharedReply::new(Reply::NoMemory),
     }
 }
@@ -129,7 +131,7 @@ fn reply_to_command(
     if is_one_shot(&command) {
         return drive(core, alloc, session, command);
     }
-    reply_of(core.command(session, command))
+    reply_to_step(core, session, Ask::Do(command))
 }
 
 fn is_one_shot(command: &Command) -> bool
@@ -141,7 +143,14 @@ fn is_one_shot(command: &Command) -> bool
     }
 }
 
-/// The reply of one step, which is NoMemory where memory was refused.
+/// Makes one step of the core, and replies NoMemory if memory is refused.
+fn reply_to_step(core: &mut Core<RingPost>, session: u32, step: Step<RingPost>) -> SharedReply
+    ensures { StepMadeOrRefused core.old session (ask_of as_outbox step) result core.new }
+{
+    reply_of(core.step(session, step))
+}
+
+/// The reply of one step, which is NoMemory if memory was refused.
 fn reply_of(step: Result<Stepped, AllocError>) -> SharedReply
     ensures { MatchResult step (λ s. result ≡ s.reply) (λ e. result ≡ Reply.NoMemory) }
 {

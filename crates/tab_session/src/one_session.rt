@@ -9,7 +9,7 @@ ghost use Rattle.tab_session.specs.OneSessions.{Ran};
 ghost use Rattle.tab_session.specs.StepsMade.{StepMadeOrRefused};
 
 use std::alloc::{AllocError, Global};
-use tab_core::Core;
+use tab_core::{Core, Step};
 use tab_model::{Command, SharedReply};
 use tab_oneshot::{Steps, one_shot};
 use tab_outbox::RingPost;
@@ -24,7 +24,7 @@ fn hand_in(
         (answer_in result) core.new }
     ensures abort { IsTrue (is_abort command) → IsOk result }
 {
-    match core.command(session, command) {
+    match core.step(session, Step::Do(command)) {
         Ok(stepped) => Ok(stepped.into_reply()),
         Err(refused) => Err(refused),
     }

@@ -5,7 +5,7 @@ ghost use Rattle.tab_model.specs.State.{IsSound};
 ghost use Rattle.tab_uses.specs.Replies.{IsAnswered};
 
 use std::alloc::AllocError;
-use tab_core::Core;
+use tab_core::{Core, Step};
 use tab_model::{Command, SharedReply};
 use tab_outbox::Post;
 
@@ -22,6 +22,6 @@ pub fn reply_to<P: Post + Drop>(
     ensures err { OnErr result (core.new ≡ core.old) }
     ensures sound { IsSound core.new }
 {
-    let stepped = core.command(session, command)?;
+    let stepped = core.step(session, Step::Do(command))?;
     Ok(stepped.into_reply())
 }

@@ -1,6 +1,6 @@
 use Rattle.tab_model.specs.declared.ask.Ask.TheVariants.{Leave}
-use Rattle.tab_core.specs.Parts.{parts_of, state_with}
-use Rattle.tab_core.proofs.StepsLemmas.{leave_makes, sees, rising_of}
+use Rattle.tab_core.specs.Parts.{state_with}
+use Rattle.tab_core.proofs.StepsLemmas.{leave_makes, sees}
 use Rattle.tab_core.proofs.Core.leave.Goals as goal
 
 pub returns : goal.returns
@@ -9,6 +9,4 @@ returns g c =
     let τ = state_with c.leave.new.self in
     record {
       done = sees σ τ c.args.self.now c.args.session Leave c.leave.result c.self.view_is (leave_makes σ τ c.args.session c.leave.result c.leave.ensures.done);
-      sound = c.leave.ensures.kept.sound;
-      rising = rising_of (parts_of c.leave.new.self) c.leave.ensures.kept;
     }
