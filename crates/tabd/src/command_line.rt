@@ -7,6 +7,9 @@ ghost use Rattle.tabd.specs.CommandLine.{command_line, flag_rule, has_globals, n
 use clap::{Arg, ArgAction, Command, value_parser};
 use std::alloc::{AllocError, Global};
 
+/// The version of the program.
+pub const VERSION: &str = "0.1.0";
+
 /// An option with a number in this range.
 fn number_of<'a>(alloc: Global, name: &'a str, value: &'a str, least: u32, most: u32) -> Arg<'a>
     ensures rule { rule_of result ≡ number_rule name.entry.now least most }
@@ -170,7 +173,7 @@ pub fn command<'a>(alloc: Global) -> Result<Command<'a>, AllocError>
     ensures { IfOk result (λ c. app_of c ≡ command_line) }
 {
     Command::new(alloc, "tabd")
-        .version("0.1.0")
+        .version(VERSION)
         .about("A server of named in-memory tables with transactions and events")
         .subcommand_required(true)
         .subcommand(replay(alloc)?)?

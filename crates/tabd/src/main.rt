@@ -11,12 +11,14 @@ mod serving;
 mod socket_file;
 mod words;
 
+use command_line::VERSION;
 use lines::{Lines, Log};
 use running::run;
+use serving::Service;
 use std::marker::Brand;
 use std::process::ExitCode;
 use tab_etf::Counted;
-use tab_metrics::Meters;
+use tab_metrics::{About, Meters};
 use tab_post::Opened;
 use tab_session::{Ended, replay};
 use words::{Run, asked};
@@ -27,7 +29,7 @@ fn main(rt: HostRuntime) -> ExitCode {
     let mut errors = Counted::new(rt.stderr());
     let wanted = asked(&rt);
     let (log, meters) = match &wanted {
-        Ok(Run::Serve(_, service)) => (service.log, service.metrics.map(|_| Meters::new())),
+        Ok(Run::Serve(_, service)) => (service.log, meters(service)),
         _ => (Log::Brief, None),
     };
     let lines = Lines::new(rt, rt.alloc(), log, meters, Counted::new(rt.stderr()));
@@ -43,4 +45,14 @@ fn main(rt: HostRuntime) -> ExitCode {
     );
     lines.put_reason();
     status
+}
+
+/// The counters of a server, if it has a port where they are asked for.
+fn meters(service: &Service) -> Option<Meters> {
+    service.metrics.map(|_| {
+        Meters::new(About {
+            version: VERSION,
+            connections: service.sizes.connections,
+        })
+    })
 }
