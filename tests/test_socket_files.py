@@ -3,6 +3,7 @@
 test_forever.py tests the replies over a socket file. Each case has a folder of its own.
 """
 
+import contextlib
 import os
 import resource
 import socket
@@ -21,6 +22,8 @@ IN_USE = DEVICE + "tabd: Address already in use (os error 98)\n"
 # A start or an end takes so many seconds at most.
 PATIENCE = 10
 
+# A start that does not wait takes less.
+AT_ONCE = 1
 
 class Place:
     """The program, with a folder for a socket file."""
@@ -216,7 +219,29 @@ def test_a_long_path(place):
 
 def test_no_folder(place):
     """The folder has to be there."""
-    place.refused(DEVICE + "tabd: No such file or directory (os error 2)\n", "--log", path=os.path.join(place.folder, "none", "socket"))
+    place.refused(DEVICE + "tabd: No such file or directory (os error 2)\n", path=os.path.join(place.folder, "none", "socket"))
+
+
+def test_no_permission(place):
+    """A folder in which not even the superuser makes a file."""
+    place.refused(DEVICE + "tabd: Operation not permitted (os error 1)\n", path="/sys/kernel/tabd")
+
+
+@pytest.mark.tries(3)
+def test_a_full_queue(place):
+    """A listener that accepts nothing, and whose queue has no room for one more: the start fails at once."""
+    with contextlib.ExitStack() as stack:
+        listener = stack.enter_context(socket.socket(socket.AF_UNIX))
+        listener.bind(place.path)
+        listener.listen(0)
+        while True:
+            waiting = stack.enter_context(socket.socket(socket.AF_UNIX))
+            waiting.setblocking(False)
+            if waiting.connect_ex(place.path):
+                break
+        begun, before = time.monotonic(), place.file()
+        place.refused(IN_USE)
+        assert time.monotonic() - begun < AT_ONCE and place.file() == before
 
 
 def test_a_relative_path(place):
