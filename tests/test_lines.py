@@ -255,16 +255,24 @@ def test_errors_that_are_full(tabd, full):
     assert (done.returncode, done.stdout) == (3, frames((1, "ok")))
 
 
-@pytest.mark.parametrize("more, wanted", [([], DEVICE), (["--log"], DEVICE + b"tabd: Address already in use (os error 98)\n")], ids=["", "--log"])
-def test_a_port_that_is_taken(tabd, more, wanted):
+@pytest.mark.parametrize("more", [[], ["--log"]], ids=["", "--log"])
+def test_a_port_that_is_taken(tabd, more):
     with socket.create_server(("127.0.0.1", 0)) as taken:
         words = ["serve", "--port", str(taken.getsockname()[1]), "--connections", "1", *more]
-        assert run(tabd, words, stdin=subprocess.DEVNULL, stdout=subprocess.PIPE) == (1, b"", wanted)
+        wanted = (1, b"", DEVICE + b"tabd: Address already in use (os error 98)\n")
+        assert run(tabd, words, stdin=subprocess.DEVNULL, stdout=subprocess.PIPE) == wanted
+
+
+def test_a_server_with_a_full_output(tabd, full):
+    """It can't say where it listens."""
+    words = ["serve", "--port", "0", "--connections", "1"]
+    status, _, err = run(tabd, words, stdin=subprocess.DEVNULL, stdout=full)
+    assert (status, err) == (1, DEVICE + b"tabd: standard output can't be written\n")
 
 
 @pytest.mark.parametrize("file, reason", [(0, CLOSED), (1, CLOSED), (2, b"")])
 def test_a_server_with_a_closed_stream(tabd, file, reason):
     """Its number is one that a client's socket would get."""
-    words = ["serve", "--port", "0", "--connections", "1", "--log"]
+    words = ["serve", "--port", "0", "--connections", "1"]
     found = run(tabd, words, stdin=subprocess.DEVNULL, stdout=subprocess.PIPE, preexec_fn=lambda: os.close(file))
     assert found == (1, b"", reason)

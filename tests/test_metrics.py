@@ -201,7 +201,7 @@ def test_ends_by_itself(tabd, serve):
     pages = server.line().rsplit(":", 1)[1].strip()
     words = [tabd, "serve", "--port", "0", "--connections", "1", "--metrics", pages]
     taken = subprocess.run(words, capture_output=True, text=True, timeout=10, check=False)
-    assert (taken.returncode, taken.stdout, taken.stderr) == (1, "", "tabd: device\n"), "a port that is taken"
+    assert (taken.returncode, taken.stdout, taken.stderr) == (1, "", TAKEN), "a port that is taken"
     connection = server.connect()
     assert connection.ask("begin") == ("tid", 1)
     connection.close()

@@ -10,6 +10,7 @@ import socket
 import stat
 import subprocess
 import tempfile
+import time
 
 import pytest
 
@@ -21,9 +22,9 @@ DEVICE = "tabd: device\n"
 IN_USE = DEVICE + "tabd: Address already in use (os error 98)\n"
 # A start or an end takes so many seconds at most.
 PATIENCE = 10
-
 # A start that does not wait takes less.
 AT_ONCE = 1
+
 
 class Place:
     """The program, with a folder for a socket file."""
@@ -112,7 +113,7 @@ def test_in_use(place):
     # A start that is refused has connected, to see whether a server listens, and that server may not have seen it go yet.
     with place.server("--forever", connections=3):
         before = place.file()
-        place.refused(DEVICE)
+        place.refused(IN_USE)
         place.refused(IN_USE, "--log")
         assert place.file() == before, "the file"
         is_served(place.path)
@@ -151,7 +152,7 @@ def look_at_folder(place):
 def test_no_socket(place, make, look):
     """What is no socket file stays as it is."""
     make(place)
-    place.refused(IN_USE, "--log")
+    place.refused(IN_USE)
     look(place)
 
 
@@ -164,7 +165,7 @@ def test_no_accept(place):
         resource.prlimit(server.process.pid, resource.RLIMIT_NOFILE, (3, 3))
         assert Connection(place.path).stream.read() == b"", "the next"
         first.close()
-        server.ends(1, DEVICE)
+        server.ends(1, DEVICE + "tabd: Too many open files (os error 24)\n")
         assert os.listdir(place.folder) == [], "the folder"
 
 
@@ -195,14 +196,14 @@ def test_removed(place):
 def test_no_page(place):
     """A start that fails after it has created the file removes it."""
     with socket.create_server(("127.0.0.1", 0)) as taken:
-        place.refused(IN_USE, "--log", "--metrics", str(taken.getsockname()[1]))
+        place.refused(IN_USE, "--metrics", str(taken.getsockname()[1]))
         assert os.listdir(place.folder) == [], "the folder"
 
 
 def test_a_closed_stream(place):
     """A standard stream is closed, whose number the socket would get."""
     for file, told in [(0, DEVICE + "tabd: a standard stream is closed\n"), (1, DEVICE + "tabd: a standard stream is closed\n"), (2, "")]:
-        place.refused(told, "--log", preexec_fn=lambda file=file: os.close(file))
+        place.refused(told, preexec_fn=lambda file=file: os.close(file))
         assert os.listdir(place.folder) == [], "the folder"
 
 
@@ -213,7 +214,7 @@ def test_a_long_path(place):
     with place.server(path=most):
         is_served(most)
     os.unlink(most)
-    place.refused(DEVICE + "tabd: path must be shorter than SUN_LEN\n", "--log", path=most + "x")
+    place.refused(DEVICE + "tabd: path must be shorter than SUN_LEN\n", path=most + "x")
     assert os.listdir(place.folder) == [], "the folder"
 
 

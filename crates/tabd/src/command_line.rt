@@ -112,9 +112,7 @@ fn log<'a>(alloc: Global) -> Arg<'a>
     ensures rule { rule_of result ≡ flag_rule (codes "log") }
     ensures own { IsFalse result.global }
 {
-    flag(alloc, "log").help(
-        "Each session's start and end has a line on standard error, and why the server ends",
-    )
+    flag(alloc, "log").help("Each session's start and end has a line on standard error")
 }
 
 fn abort_waits<'a>(alloc: Global) -> Arg<'a>

@@ -11,9 +11,9 @@ use tab_server::{Count, Counts, Gate, Note, Notes};
 /// What of a server's notes has a line.
 #[derive(Clone, Copy, Debug, PartialEq, Eq)]
 pub enum Log {
-    /// What keeps it from serving, and whom it ends.
+    /// What keeps it from serving, whom it ends, and why the server ends.
     Brief,
-    /// Each session's start and end too, and why the server ends.
+    /// Each session's start and end too.
     Full,
 }
 
@@ -136,8 +136,6 @@ impl<R: Wait + Clock, E: Target> Notes for Lines<R, E> {
     }
 
     fn fault(&self, error: &io::Error) {
-        if matches!(self.log, Log::Full) {
-            *self.reason.lock(&self.rt) = format!(in self.alloc; "tabd: {error}\n").ok();
-        }
+        *self.reason.lock(&self.rt) = format!(in self.alloc; "tabd: {error}\n").ok();
     }
 }
