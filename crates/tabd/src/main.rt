@@ -47,7 +47,7 @@ fn main(rt: HostRuntime) -> ExitCode {
     status
 }
 
-/// The counters of a server, if it has a port where they are asked for.
+/// The counters of a server that has a page of them.
 fn meters(service: &Service) -> Option<Meters> {
     service.metrics.map(|_| {
         Meters::new(About {

@@ -66,7 +66,7 @@ fn settings(delivery: Delivery, idle: Option<u32>, aborts: bool) -> Settings
     }
 }
 
-/// Where clients connect, where the counters are asked for, and the lines that say both.
+/// The listeners for clients and for the page of counters, and the lines that name their addresses.
 #[derive(Drop)]
 struct Listening<'a> {
     clients: &'a Listener,
@@ -137,7 +137,7 @@ where
     }
 }
 
-/// Listens for who asks for the counters, where that is wanted.
+/// Listens for clients of the page, if it is wanted.
 fn listen_for_pages<'a, R, N>(
     rt: &R,
     alloc: Global,
@@ -166,7 +166,7 @@ where
     })
 }
 
-/// The line that says where clients connect.
+/// The line that names the address for clients.
 fn line_of(alloc: Global, place: &Place<'_>) -> Result<String, AllocError> {
     match place {
         Place::Port(port) => format!(in alloc; "listening on 127.0.0.1:{port}\n"),
@@ -234,7 +234,7 @@ where
     })
 }
 
-/// Says where the server listens, and serves clients. What has to be made for them is made before.
+/// Prints the lines, and serves clients. Everything that serving needs exists before.
 fn say_and_serve<H, W, G>(
     host: &H,
     alloc: Global,
