@@ -24,6 +24,11 @@ LITTLE = 64 * 1_048_576
 FOR_A_MAP = 48 * 1_048_576
 ASKED, CLOSED = frame((1, "join")), DEVICE + b"tabd: a standard stream is closed\n"
 
+# The messages about required options, and the usage of `serve`.
+MISSING, COUNT = b"error: the following required arguments were not provided:\n", b"  --connections <COUNT>\n"
+ADDRESS, BOTH = b"  <--port <PORT>|--socket <PATH>>\n", b"error: the argument '--port <PORT>' cannot be used with '--socket <PATH>'\n"
+USAGE = b"\nUsage: tabd serve [OPTIONS] --connections <COUNT> <--port <PORT>|--socket <PATH>>\n"
+
 # Arguments, the status, and the beginnings of standard output and standard error; if a text is empty, the stream has to be empty.
 WORDS: List[Any] = [
     ([], 2, b"", b"error: "),
@@ -40,12 +45,13 @@ WORDS: List[Any] = [
     (["replay", "--outbox", "65536"], 0, b"", b""),
     (["replay", "--outbox=3"], 0, b"", b""),
     ([b"\xff\xfe"], 2, b"", b"error: "),
-    (["serve"], 2, b"", b"error: "),
-    (["serve", "--port", "0"], 2, b"", b"error: "),
-    (["serve", "--connections", "1"], 2, b"", b"error: one of --port <PORT> and --socket <PATH> "),
-    (["serve", "--port", "0", "--socket", "no/socket", "--connections", "1"], 2, b"", b"error: only one of --port <PORT> and --socket <PATH> "),
-    (["serve", "--socket", "no/socket"], 2, b"", b"error: "),
-    (["serve", "--socket", "", "--connections", "1"], 2, b"", b"error: the path of --socket <PATH> is empty"),
+    (["serve"], 2, b"", MISSING + COUNT + ADDRESS + USAGE),
+    (["serve", "--port", "0"], 2, b"", MISSING + COUNT + USAGE),
+    (["serve", "--connections", "1"], 2, b"", MISSING + ADDRESS + USAGE),
+    (["serve", "--port", "0", "--socket", "no/socket", "--connections", "1"], 2, b"", BOTH + USAGE),
+    (["serve", "--port", "0", "--socket", "no/socket"], 2, b"", BOTH + USAGE),
+    (["serve", "--socket", "no/socket"], 2, b"", MISSING + COUNT + USAGE),
+    (["serve", "--socket", "", "--connections", "1"], 2, b"", b"error: the path of --socket <PATH> is empty\n" + USAGE),
     (["serve", "--socket", "--connections", "1"], 2, b"", b"error: "),
     (["serve", "--socket", "no/socket", "--socket", "no/socket", "--connections", "1"], 2, b"", b"error: "),
     (["serve", "--port", "65536", "--connections", "1"], 2, b"", b"error: "),
@@ -58,6 +64,7 @@ WORDS: List[Any] = [
     (["serve", "--port", "0", "--connections", "1", "--idle", "86401"], 2, b"", b"error: "),
     (["--version"], 0, b"tabd 0.1.0\n", b""),
     (["--help"], 0, b"A server of named in-memory tables", b""),
+    (["serve", "--help"], 0, b"Serves each connection to a port or a socket file as a session\n" + USAGE, b""),
     (["replay", "--help"], 0, b"Answers the frames of standard input", b""),
 ]
 
@@ -255,16 +262,24 @@ def test_errors_that_are_full(tabd, full):
     assert (done.returncode, done.stdout) == (3, frames((1, "ok")))
 
 
-@pytest.mark.parametrize("more, wanted", [([], DEVICE), (["--log"], DEVICE + b"tabd: Address already in use (os error 98)\n")], ids=["", "--log"])
-def test_a_port_that_is_taken(tabd, more, wanted):
+@pytest.mark.parametrize("more", [[], ["--log"]], ids=["", "--log"])
+def test_a_port_that_is_taken(tabd, more):
     with socket.create_server(("127.0.0.1", 0)) as taken:
         words = ["serve", "--port", str(taken.getsockname()[1]), "--connections", "1", *more]
-        assert run(tabd, words, stdin=subprocess.DEVNULL, stdout=subprocess.PIPE) == (1, b"", wanted)
+        wanted = (1, b"", DEVICE + b"tabd: Address already in use (os error 98)\n")
+        assert run(tabd, words, stdin=subprocess.DEVNULL, stdout=subprocess.PIPE) == wanted
+
+
+def test_a_server_with_a_full_output(tabd, full):
+    """It can't say where it listens."""
+    words = ["serve", "--port", "0", "--connections", "1"]
+    status, _, err = run(tabd, words, stdin=subprocess.DEVNULL, stdout=full)
+    assert (status, err) == (1, DEVICE + b"tabd: standard output can't be written\n")
 
 
 @pytest.mark.parametrize("file, reason", [(0, CLOSED), (1, CLOSED), (2, b"")])
 def test_a_server_with_a_closed_stream(tabd, file, reason):
     """Its number is one that a client's socket would get."""
-    words = ["serve", "--port", "0", "--connections", "1", "--log"]
+    words = ["serve", "--port", "0", "--connections", "1"]
     found = run(tabd, words, stdin=subprocess.DEVNULL, stdout=subprocess.PIPE, preexec_fn=lambda: os.close(file))
     assert found == (1, b"", reason)

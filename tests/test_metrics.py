@@ -1,5 +1,7 @@
 """`tabd serve --metrics`: the counters of its page, compared with its clients' requests and replies."""
 
+import contextlib
+import http.client
 import random
 import socket
 import subprocess
@@ -7,11 +9,12 @@ import time
 
 import pytest
 
-from tests.lib.checks import ATOMIC, CREATE, HERE_OK, OK, script, side_by_side, waits, watch, write
+from tests.lib.checks import ATOMIC, CREATE, HERE_OK, LIMIT, OK, script, side_by_side, waits, watch, write
 from tests.lib.servers import Metered
 
-# A client of the page has so many seconds for its request.
-PATIENCE = 2
+# A client of the page has so many seconds for its request; another is answered in less meanwhile.
+PATIENCE, MEANWHILE = 2, 1.5
+TAKEN = "tabd: device\ntabd: Address already in use (os error 98)\n"
 
 
 @pytest.fixture
@@ -129,12 +132,67 @@ def test_other_requests(server):
             client.sendall(bytes([byte]))
             time.sleep(0.002)
         assert client.recv(15) == b"HTTP/1.1 200 OK", "in pieces"
-    silent = socket.create_connection(("127.0.0.1", server.pages))
-    begun = time.monotonic()
-    server.page()
-    assert time.monotonic() - begun <= 2 * PATIENCE, "it waits for a silent client"
-    silent.close()
     assert server.connect().ask("begin") == ("tid", 1), "another client"
+
+
+def test_head_and_query(server):
+    """A query changes nothing, and HEAD gets the head without the page."""
+    assert server.ask(path="/metrics?name=a&b")[::2] == server.ask()[::2], "a query"
+    assert server.ask(path="/metricsx")[0] == 404, "a longer path"
+    connection = http.client.HTTPConnection("127.0.0.1", server.pages, timeout=10)
+    connection.request("HEAD", "/metrics")
+    reply = connection.getresponse()
+    assert (reply.status, reply.getheader("Content-Length"), reply.read()) == (200, str(len(server.ask()[2])), b""), "HEAD"
+
+
+def test_slow_clients(server):
+    """A client has two seconds for its whole request, and others are answered meanwhile."""
+    slow = [socket.create_connection(("127.0.0.1", server.pages)) for _ in range(8)]
+    begun = time.monotonic()
+    while (now := time.monotonic()) < begun + 1.5 * PATIENCE:
+        for client in slow[:4]:
+            with contextlib.suppress(OSError):
+                client.sendall(b"G")
+        server.page()
+        assert time.monotonic() - now < MEANWHILE, "a client beside"
+        time.sleep(0.3)
+    for client in slow:
+        client.settimeout(MEANWHILE)
+        with contextlib.suppress(ConnectionError):
+            assert client.recv(1) == b"", "its time is over"
+
+
+def test_each_table(server):
+    """The tables' names, as the text format escapes them, and how many records each has."""
+    client = server.connect()
+    for name in ("t", 'a "b"', "back\\slash", "line\nfeed", "\u00fc{}"):
+        script((client, ("create_table", name, []), ATOMIC))
+    script((client, ("transaction", [write(key, "a") for key in range(3)], 0), ("atomic", [OK] * 3)))
+    names = {'a \\"b\\"': 0, "back\\\\slash": 0, "line\\nfeed": 0, "t": 3, "\u00fc{}": 0}
+    assert server.samples()["table_records"] == {f'table="{name}"': count for name, count in names.items()}
+    server.has(tables=5, records=3)
+    script((client, ("delete_table", "t"), ATOMIC))
+    assert 'table="t"' not in server.samples()["table_records"], "a table that is deleted"
+
+
+def test_refused_connections(server):
+    """How many may be served at once, how many were refused, and the version."""
+    served = [server.connect() for _ in range(4)]
+    script(*((client, "begin", ("tid", age)) for age, client in enumerate(served, 1)))
+    for _ in range(3):
+        assert server.connect().receive() == LIMIT, "a fifth"
+    server.has(connections_limit=4, connections_refused_total=3, sessions=4, sessions_idle_ended_total=0)
+    assert server.samples()["build_info"] == {'version="0.1.0"': 1}
+
+
+def test_idle_sessions(tabd):
+    """Those that are ended since they were idle."""
+    with Metered(tabd, 2, "--idle", "1") as server:
+        idle, other = server.connect(), server.connect()
+        script((idle, "begin", ("tid", 1)))
+        assert idle.stream.read() == b"", "it is ended"
+        other.close()
+        server.has(sessions_idle_ended_total=1, sessions=0, sessions_started_total=2)
 
 
 def test_ends_by_itself(tabd, serve):
@@ -143,7 +201,7 @@ def test_ends_by_itself(tabd, serve):
     pages = server.line().rsplit(":", 1)[1].strip()
     words = [tabd, "serve", "--port", "0", "--connections", "1", "--metrics", pages]
     taken = subprocess.run(words, capture_output=True, text=True, timeout=10, check=False)
-    assert (taken.returncode, taken.stdout, taken.stderr) == (1, "", "tabd: device\n"), "a port that is taken"
+    assert (taken.returncode, taken.stdout, taken.stderr) == (1, "", TAKEN), "a port that is taken"
     connection = server.connect()
     assert connection.ask("begin") == ("tid", 1)
     connection.close()

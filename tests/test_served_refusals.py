@@ -345,7 +345,7 @@ CASES: List[Any] = [
 def refused(tabd, tmp_path_factory):
     """Starts a server with some options whose allocations can be refused."""
     library = built("refusing_server", tmp_path_factory.mktemp("refusing"))
-    serve = lambda *words: RefusedServer(tabd, library, *words)
+    serve = lambda *words, **options: RefusedServer(tabd, library, *words, **options)
     with serve("--connections", "1") as server:
         server.refuse(COUNTED)
         server.connect().ask("begin")
@@ -383,3 +383,18 @@ def test_the_default_journal(refused):
             script((connection, ("transaction", [write(1, number)], 0), ("atomic", [OK])))
             made.append(server.made())
     assert max(n for n, count in enumerate(made, 1) if count == min(made)) == JOURNAL - 1, "the last commit that folds nothing"
+
+
+@pytest.mark.parametrize("words", [(), ("--metrics", "0")], ids=["", "--metrics"])
+def test_a_start(refused, words):
+    """A start that is refused any allocation or thread says where it listens and serves, or fails and does not say it."""
+    for nth in itertools.count(1):
+        try:
+            server = refused("--connections", "2", "--forever", *words, nth=nth)
+        except OSError as error:
+            same(f"allocation {nth}", str(error), "the server does not start: tabd: no memory\n")
+            continue
+        with server:
+            server.seated()[0].close()
+            if server.made() < nth:
+                break

@@ -3,12 +3,14 @@
 test_forever.py tests the replies over a socket file. Each case has a folder of its own.
 """
 
+import contextlib
 import os
 import resource
 import socket
 import stat
 import subprocess
 import tempfile
+import time
 
 import pytest
 
@@ -20,6 +22,8 @@ DEVICE = "tabd: device\n"
 IN_USE = DEVICE + "tabd: Address already in use (os error 98)\n"
 # A start or an end takes so many seconds at most.
 PATIENCE = 10
+# A start that does not wait takes less.
+AT_ONCE = 1
 
 
 class Place:
@@ -109,7 +113,7 @@ def test_in_use(place):
     # A start that is refused has connected, to see whether a server listens, and that server may not have seen it go yet.
     with place.server("--forever", connections=3):
         before = place.file()
-        place.refused(DEVICE)
+        place.refused(IN_USE)
         place.refused(IN_USE, "--log")
         assert place.file() == before, "the file"
         is_served(place.path)
@@ -148,7 +152,7 @@ def look_at_folder(place):
 def test_no_socket(place, make, look):
     """What is no socket file stays as it is."""
     make(place)
-    place.refused(IN_USE, "--log")
+    place.refused(IN_USE)
     look(place)
 
 
@@ -161,7 +165,7 @@ def test_no_accept(place):
         resource.prlimit(server.process.pid, resource.RLIMIT_NOFILE, (3, 3))
         assert Connection(place.path).stream.read() == b"", "the next"
         first.close()
-        server.ends(1, DEVICE)
+        server.ends(1, DEVICE + "tabd: Too many open files (os error 24)\n")
         assert os.listdir(place.folder) == [], "the folder"
 
 
@@ -192,14 +196,14 @@ def test_removed(place):
 def test_no_page(place):
     """A start that fails after it has created the file removes it."""
     with socket.create_server(("127.0.0.1", 0)) as taken:
-        place.refused(IN_USE, "--log", "--metrics", str(taken.getsockname()[1]))
+        place.refused(IN_USE, "--metrics", str(taken.getsockname()[1]))
         assert os.listdir(place.folder) == [], "the folder"
 
 
 def test_a_closed_stream(place):
     """A standard stream is closed, whose number the socket would get."""
     for file, told in [(0, DEVICE + "tabd: a standard stream is closed\n"), (1, DEVICE + "tabd: a standard stream is closed\n"), (2, "")]:
-        place.refused(told, "--log", preexec_fn=lambda file=file: os.close(file))
+        place.refused(told, preexec_fn=lambda file=file: os.close(file))
         assert os.listdir(place.folder) == [], "the folder"
 
 
@@ -210,13 +214,35 @@ def test_a_long_path(place):
     with place.server(path=most):
         is_served(most)
     os.unlink(most)
-    place.refused(DEVICE + "tabd: path must be shorter than SUN_LEN\n", "--log", path=most + "x")
+    place.refused(DEVICE + "tabd: path must be shorter than SUN_LEN\n", path=most + "x")
     assert os.listdir(place.folder) == [], "the folder"
 
 
 def test_no_folder(place):
     """The folder has to be there."""
-    place.refused(DEVICE + "tabd: No such file or directory (os error 2)\n", "--log", path=os.path.join(place.folder, "none", "socket"))
+    place.refused(DEVICE + "tabd: No such file or directory (os error 2)\n", path=os.path.join(place.folder, "none", "socket"))
+
+
+def test_no_permission(place):
+    """A folder in which not even the superuser makes a file."""
+    place.refused(DEVICE + "tabd: Operation not permitted (os error 1)\n", path="/sys/kernel/tabd")
+
+
+@pytest.mark.tries(3)
+def test_a_full_queue(place):
+    """A listener that accepts nothing, and whose queue has no room for one more: the start fails at once."""
+    with contextlib.ExitStack() as stack:
+        listener = stack.enter_context(socket.socket(socket.AF_UNIX))
+        listener.bind(place.path)
+        listener.listen(0)
+        while True:
+            waiting = stack.enter_context(socket.socket(socket.AF_UNIX))
+            waiting.setblocking(False)
+            if waiting.connect_ex(place.path):
+                break
+        begun, before = time.monotonic(), place.file()
+        place.refused(IN_USE)
+        assert time.monotonic() - begun < AT_ONCE and place.file() == before
 
 
 def test_a_relative_path(place):

@@ -84,12 +84,13 @@ def is_no_memory(told, wanted):
 
 
 class RefusedServer(Server):
-    """A server whose allocations and threads can be refused."""
+    """A server whose allocations and threads can be refused, those of its start included."""
 
-    def __init__(self, program, library, *words):
+    def __init__(self, program, library, *words, nth=0):
         self.file = tempfile.TemporaryFile()
         self.file.truncate(16)
         self.control = mmap.mmap(self.file.fileno(), 16)
+        self.refuse(nth)
         env = {"LD_PRELOAD": library, "CONTROL": f"/proc/self/fd/{self.file.fileno()}"}
         super().__init__(program, *words, env=env, pass_fds=[self.file.fileno()])
 

@@ -166,14 +166,18 @@ class Metered(Server):
         return reply.status, reply.getheader("Content-Type"), reply.read().decode()
 
     def page(self) -> Dict[str, int]:
-        """Each metric's value, as Prometheus reads it: two lines of comments before each."""
+        """The value of each metric that has no label, as Prometheus reads it: two lines of comments come before it."""
+        return {name: values[""] for name, values in self.samples().items() if "" in values}
+
+    def samples(self) -> Dict[str, Dict[str, int]]:
+        """The values of each metric, by the text between its braces."""
         status, kind, text = self.ask()
         same("the page", (status, kind), (200, "text/plain; version=0.0.4"))
-        found = re.findall(r"# HELP tabd_(\w+) .+\n# TYPE tabd_\1 (\w+)\ntabd_\1 (\d+)\n", text)
-        same("its lines", "".join(f"tabd_{name} {value}\n" for name, _, value in found), re.sub("#.*\n", "", text))
-        for name, kind, _ in found:
+        sections = re.findall(r"# HELP tabd_(\w+) .+\n# TYPE tabd_\1 (\w+)\n((?:tabd_\1[{ ].*\n)*)", text)
+        same("its lines", "".join(f"# TYPE tabd_{name} {kind}\n{lines}" for name, kind, lines in sections), re.sub("# HELP.*\n", "", text))
+        for name, kind, _ in sections:
             same(name, kind, "counter" if name.endswith("_total") else "gauge")
-        return {name: int(value) for name, _, value in found}
+        return {name: samples_in(name, lines) for name, _, lines in sections}
 
     def has(self, **wanted: int) -> None:
         """These metrics, once all is counted that has happened."""
@@ -182,3 +186,10 @@ class Metered(Server):
         while (found := {name: self.page()[name] for name in wanted}) != wanted and time.monotonic() < end:
             time.sleep(0.02)
         assert found == wanted, "metrics"
+
+
+def samples_in(name: str, lines: str) -> Dict[str, int]:
+    """The values of a metric's lines, by the text between the braces of each; without braces by none."""
+    found = re.findall(r"tabd_\w+(?:\{(.*)\})? (\d+)\n", lines)
+    same(name, len(found), lines.count("\n"))
+    return {label: int(value) for label, value in found}

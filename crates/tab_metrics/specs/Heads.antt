@@ -1,15 +1,20 @@
 -- What the head of a request over HTTP asks. The grammar of a head is RFC 9112's, in the definitions of httparse.
-use Rattle.std.specs.Prelude.{◌≡◌, ◌≢◌, ℕ, List, codes}
+use Rattle.std.specs.Prelude.{◌≡◌, ◌≢◌, ◌⊎◌, ◌++◌, ℕ, List, codes}
 use Rattle.httparse.specs.Grammar.{RequestHead, ReadsRequest}
 use Rattle.httparse.specs.Spans.{RequestOverflows}
 use Rattle.tab_metrics.specs.declared.requests.Request.{Request}
-use Rattle.tab_metrics.specs.declared.requests.Request.TheVariants.{Page, Elsewhere, Otherwise, Wrong}
+use Rattle.tab_metrics.specs.declared.requests.Request.TheVariants.{Page, Head, Elsewhere, Otherwise, Wrong}
 
--- whether a head asks this: the page is `GET /metrics`
+-- a target that names the page: its path is `/metrics`, with any query or none
+abbrev pub NamesPage : List ℕ → Type 0
+NamesPage target = (target ≡ codes "/metrics") ⊎ ((query : List ℕ) × (target ≡ codes "/metrics?" ++ query))
+
+-- whether a head asks this: the page by GET, and its head by HEAD
 abbrev pub Asks : RequestHead → Request → Type 0
-Asks h Page = (h.target ≡ codes "/metrics") × (h.method ≡ codes "GET")
-Asks h Elsewhere = h.target ≢ codes "/metrics"
-Asks h Otherwise = (h.target ≡ codes "/metrics") × (h.method ≢ codes "GET")
+Asks h Page = NamesPage h.target × (h.method ≡ codes "GET")
+Asks h Head = NamesPage h.target × (h.method ≡ codes "HEAD")
+Asks h Elsewhere = NamesPage h.target → ⊥
+Asks h Otherwise = NamesPage h.target × (h.method ≢ codes "GET") × (h.method ≢ codes "HEAD")
 Asks h _ = ⊥
 
 -- whether this is asked by a head at the beginning of these bytes; Wrong is one that can't come to a head of 64 fields or fewer

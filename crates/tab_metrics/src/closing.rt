@@ -29,13 +29,16 @@ impl Closing {
         self.changed.notify_all();
     }
 
-    /// Waits until the next look. False where they are looked for no more.
-    pub fn goes_on<R: Wait>(&self, rt: &R) -> bool {
+    /// Whether they are looked for no more.
+    pub fn is_over(&self) -> bool {
+        self.is_over.load(Ordering::SeqCst)
+    }
+
+    /// Waits until the next look, or until they are looked for no more.
+    pub fn pause<R: Wait>(&self, rt: &R) {
         let seen = self.changed.notifications();
-        if self.is_over.load(Ordering::SeqCst) {
-            return false;
+        if !self.is_over() {
+            self.changed.sleep(rt, seen, Duration::from_millis(LOOK));
         }
-        self.changed.sleep(rt, seen, Duration::from_millis(LOOK));
-        true
     }
 }

@@ -7,8 +7,9 @@ mod meters;
 mod page;
 mod pages;
 mod requests;
+mod timed;
 
 pub use closing::Closing;
-pub use meters::Meters;
+pub use meters::{About, Meters};
 pub use page::{Holdings, Paged, page_of};
 pub use pages::serve_pages;

@@ -17,9 +17,18 @@ struct Open {
     since: Option<Instant>,
 }
 
+/// What stays the same from a server's start on.
+#[derive(Clone, Copy, Debug, PartialEq, Eq)]
+pub struct About {
+    pub version: &'static str,
+    /// How many connections may be served; with `--forever`, how many at once.
+    pub connections: u32,
+}
+
 /// The counters, each from the server's start on, and the transactions that are open.
 #[derive(Drop)]
 pub struct Meters {
+    about: About,
     read: AtomicU64,
     written: AtomicU64,
     items: AtomicU64,
@@ -31,13 +40,16 @@ pub struct Meters {
     overflows: AtomicU64,
     started: AtomicU64,
     ended: AtomicU64,
+    idle: AtomicU64,
+    refused: AtomicU64,
     open: Mutex<ArrayVec<Open, SESSIONS>>,
 }
 
 impl Meters {
     /// Nothing has happened yet.
-    pub fn new() -> Meters {
+    pub fn new(about: About) -> Meters {
         Meters {
+            about,
             read: AtomicU64::new(0),
             written: AtomicU64::new(0),
             items: AtomicU64::new(0),
@@ -49,6 +61,8 @@ impl Meters {
             overflows: AtomicU64::new(0),
             started: AtomicU64::new(0),
             ended: AtomicU64::new(0),
+            idle: AtomicU64::new(0),
+            refused: AtomicU64::new(0),
             open: Mutex::new(ArrayVec::new()),
         }
     }
@@ -76,9 +90,26 @@ impl Meters {
         match note {
             Note::Started(_) => add(&self.started, 1),
             Note::Ended(_) => add(&self.ended, 1),
+            Note::Idle(_) => add(&self.idle, 1),
+            Note::NoSeat => add(&self.refused, 1),
             Note::Overflowed(_, _) => add(&self.overflows, 1),
             _ => {}
         }
+    }
+
+    /// What stays the same.
+    pub fn about(&self) -> About {
+        self.about
+    }
+
+    /// Sessions that were ended since they were idle for too long.
+    pub fn idle(&self) -> u64 {
+        self.idle.load(Ordering::SeqCst)
+    }
+
+    /// Connections that were closed at once, since as many were served as may be.
+    pub fn refused(&self) -> u64 {
+        self.refused.load(Ordering::SeqCst)
     }
 
     /// Sessions that have started.

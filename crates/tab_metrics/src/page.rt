@@ -2,44 +2,40 @@
 
 use crate::meters::Meters;
 use std::alloc::{AllocError, Global};
+use std::io;
 use std::sync::Wait;
-use std::time::Clock;
+use std::time::{Clock, Duration};
 use tab_book::Shared;
 use tab_post::Host;
 use tab_server::Count;
+use tab_tables::Catalog;
 
-/// What a book holds.
-#[derive(Clone, Copy, Debug, PartialEq, Eq)]
+/// The tables of a book, and the number of its journal's entries, at one time.
+#[derive(Drop)]
 pub struct Holdings {
-    pub tables: u64,
-    pub records: u64,
+    tables: Catalog,
     /// Entries of the journal.
-    pub entries: u64,
+    entries: u64,
 }
 
 impl Holdings {
-    /// Of a book, which is held meanwhile.
-    pub fn of<H: Host>(host: &H, shared: &Shared<H>) -> Holdings {
+    /// Of a book, which is held only while its tables are shared: the time for that is constant.
+    pub fn of<H: Host>(host: &H, shared: &Shared<H>) -> Result<Holdings, AllocError> {
         let book = shared.hold(host);
-        let mut holdings = Holdings {
-            tables: 0,
-            records: 0,
+        Ok(Holdings {
+            tables: book.tables().share()?,
             entries: book.journal().len() as u64,
-        };
-        for entry in book.tables().tables() {
-            holdings.tables = holdings.tables.saturating_add(1);
-            holdings.records = holdings
-                .records
-                .saturating_add(entry.pair().1.size() as u64);
-        }
-        holdings
+        })
     }
 }
 
-/// What has a page of its meters.
+/// What has a page of its meters, and a clock.
 pub trait Paged {
     /// The page, by what the book holds.
-    fn page(&self, holdings: Holdings) -> Result<String, AllocError>;
+    fn page(&self, holdings: &Holdings) -> Result<String, AllocError>;
+
+    /// The time since a start, which stays the same.
+    fn now(&self) -> io::Result<Duration>;
 }
 
 /// A counter's name, without what all names have, and what it says.
@@ -97,33 +93,15 @@ pub fn page_of<R: Wait + Clock>(
     rt: &R,
     alloc: Global,
     meters: &Meters,
-    holdings: Holdings,
+    holdings: &Holdings,
 ) -> Result<String, AllocError> {
     let mut page = Page {
         text: String::new(alloc),
     };
-    for counter in &COUNTERS {
-        page.counter(counter.name, counter.help, meters.total(counter.count))?;
-    }
-    page.counter("overflows", "Outboxes that were full.", meters.overflows())?;
-    page.counter(
-        "sessions_started",
-        "Sessions that have started.",
-        meters.started(),
-    )?;
-    page.gauge("sessions", "Sessions that are joined.", meters.sessions())?;
-    page.gauge(
-        "open_transactions",
-        "Transactions that are open.",
-        meters.open(rt),
-    )?;
-    page.gauge(
-        "oldest_transaction_seconds",
-        "How long the oldest of them is open.",
-        meters.oldest(rt),
-    )?;
-    page.gauge("tables", "Tables.", holdings.tables)?;
-    page.gauge("records", "Records of all tables.", holdings.records)?;
+    page.server(meters)?;
+    page.counters(meters)?;
+    page.transactions(meters.open(rt), meters.oldest(rt))?;
+    page.tables(&holdings.tables)?;
     page.gauge(
         "journal_entries",
         "Entries of the journal.",
@@ -139,6 +117,67 @@ struct Page {
 }
 
 impl Page {
+    /// The server's version, its connections and its sessions.
+    fn server(&mut self, meters: &Meters) -> Result<(), AllocError> {
+        let about = meters.about();
+        self.head("build_info", "gauge", "The version of tabd; 1.")?;
+        self.labeled("build_info", "version", about.version, 1)?;
+        self.gauge(
+            "connections_limit",
+            "Connections that are accepted; with --forever, how many at once.",
+            u64::from(about.connections),
+        )?;
+        self.counter(
+            "connections_refused",
+            "Connections that were closed since as many were served as may be.",
+            meters.refused(),
+        )?;
+        self.counter(
+            "sessions_started",
+            "Sessions that have started.",
+            meters.started(),
+        )?;
+        self.counter(
+            "sessions_idle_ended",
+            "Sessions that were ended since they were idle.",
+            meters.idle(),
+        )?;
+        self.gauge("sessions", "Sessions that are joined.", meters.sessions())
+    }
+
+    fn counters(&mut self, meters: &Meters) -> Result<(), AllocError> {
+        for counter in &COUNTERS {
+            self.counter(counter.name, counter.help, meters.total(counter.count))?;
+        }
+        self.counter("overflows", "Outboxes that were full.", meters.overflows())
+    }
+
+    /// How many are open, and the age of the oldest in seconds.
+    fn transactions(&mut self, open: u64, oldest: u64) -> Result<(), AllocError> {
+        self.gauge("open_transactions", "Transactions that are open.", open)?;
+        self.gauge(
+            "oldest_transaction_seconds",
+            "How long the oldest of them is open.",
+            oldest,
+        )
+    }
+
+    /// Each table's records, and how many tables and records there are.
+    fn tables(&mut self, tables: &Catalog) -> Result<(), AllocError> {
+        self.head("table_records", "gauge", "Records of each table.")?;
+        let mut count: u64 = 0;
+        let mut records: u64 = 0;
+        for entry in tables.tables() {
+            let (name, table) = entry.pair();
+            let size = table.size() as u64;
+            self.labeled("table_records", "table", name.as_str(), size)?;
+            count = count.saturating_add(1);
+            records = records.saturating_add(size);
+        }
+        self.gauge("tables", "Tables.", count)?;
+        self.gauge("records", "Records of all tables.", records)
+    }
+
     fn counter(&mut self, name: &str, help: &str, value: u64) -> Result<(), AllocError> {
         write!(self.text, "# HELP tabd_{name}_total {help}\n")?;
         write!(self.text, "# TYPE tabd_{name}_total counter\n")?;
@@ -147,9 +186,42 @@ impl Page {
     }
 
     fn gauge(&mut self, name: &str, help: &str, value: u64) -> Result<(), AllocError> {
-        write!(self.text, "# HELP tabd_{name} {help}\n")?;
-        write!(self.text, "# TYPE tabd_{name} gauge\n")?;
+        self.head(name, "gauge", help)?;
         write!(self.text, "tabd_{name} {value}\n")?;
         Ok(())
     }
+
+    /// The lines before a metric's samples.
+    fn head(&mut self, name: &str, kind: &str, help: &str) -> Result<(), AllocError> {
+        write!(self.text, "# HELP tabd_{name} {help}\n")?;
+        write!(self.text, "# TYPE tabd_{name} {kind}\n")?;
+        Ok(())
+    }
+
+    /// A sample with one label, whose value is any text.
+    fn labeled(
+        &mut self,
+        name: &str,
+        label: &str,
+        text: &str,
+        value: u64,
+    ) -> Result<(), AllocError> {
+        write!(self.text, "tabd_{name}{{{label}=\"")?;
+        push_escaped(&mut self.text, text)?;
+        write!(self.text, "\"}} {value}\n")?;
+        Ok(())
+    }
+}
+
+/// Appends a label's value, in which the text format escapes three characters.
+fn push_escaped(text: &mut String, value: &str) -> Result<(), AllocError> {
+    for character in value.chars() {
+        match character {
+            '\\' => text.push_str("\\\\")?,
+            '"' => text.push_str("\\\"")?,
+            '\n' => text.push_str("\\n")?,
+            other => text.push(other)?,
+        }
+    }
+    Ok(())
 }

@@ -3,18 +3,22 @@
 use crate::closing::Closing;
 use crate::page::{Holdings, Paged};
 use crate::requests::{Request, read_request};
+use crate::timed::Timed;
 use std::alloc::{AllocError, Global};
 use std::io::{self, Write};
-use std::net::{Shutdown, TcpListener, TcpStream};
-use std::time::Duration;
+use std::net::{TcpListener, TcpStream};
+use std::sync::Wait;
+use std::sync::atomic::{AtomicU64, Ordering};
+use std::thread;
+use std::thread::Threads;
 use tab_book::Shared;
 use tab_post::Host;
 
-/// So many seconds a client has for its request, and to take the page.
-const PATIENCE: u64 = 2;
+/// So many clients are answered at once.
+const CLIENTS: u64 = 16;
 
-/// Answers `GET /metrics`, one client after the other, until no more are looked for.
-pub fn serve_pages<H: Host, P: Paged>(
+/// Answers `GET /metrics` and `HEAD /metrics`, each client in a thread of its own, until no more are looked for.
+pub fn serve_pages<H: Host + Threads + Send + Sync, P: Paged + Sync>(
     host: &H,
     alloc: Global,
     listener: &TcpListener,
@@ -26,52 +30,76 @@ pub fn serve_pages<H: Host, P: Paged>(
     if listener.set_nonblocking(true).is_err() {
         return;
     }
-    for _ in host.forever() {
-        match listener.accept() {
-            Ok((stream, _peer)) => {
-                let _told = answer(host, alloc, stream, shared, paged);
+    let answered = &AtomicU64::new(0);
+    thread::scope(thread::scope_env(), host, |scope| {
+        for _ in host.forever() {
+            if closing.is_over() {
+                return;
             }
-            Err(_) if closing.goes_on(host) => {}
-            Err(_) => return,
+            let Some(stream) = next_client(listener, answered) else {
+                closing.pause(host);
+                continue;
+            };
+            answered.fetch_add(1, Ordering::SeqCst);
+            let started = scope.spawn(move || {
+                // No one is left to hear that an answer failed.
+                let _told = answer(host, alloc, stream, shared, paged);
+                answered.fetch_sub(1, Ordering::SeqCst);
+            });
+            if started.is_err() {
+                answered.fetch_sub(1, Ordering::SeqCst);
+            }
         }
+    });
+}
+
+/// The next client. None if there is none, or as many are answered as may be at once.
+fn next_client(listener: &TcpListener, answered: &AtomicU64) -> Option<TcpStream> {
+    if answered.load(Ordering::SeqCst) >= CLIENTS {
+        return None;
+    }
+    match listener.accept() {
+        Ok((stream, _peer)) => Some(stream),
+        Err(_) => None,
     }
 }
 
-/// No one is left to hear that an answer failed.
+/// Reads a request and answers it. An error if the client takes too long for either.
 fn answer<H: Host, P: Paged>(
     host: &H,
     alloc: Global,
-    mut stream: TcpStream,
+    stream: TcpStream,
     shared: &Shared<H>,
     paged: &P,
 ) -> io::Result<()> {
-    let patience = Some(Duration::from_secs(PATIENCE));
-    stream.set_read_timeout(patience)?;
-    stream.set_write_timeout(patience)?;
+    let mut stream = Timed::new(paged, stream)?;
     let Some(request) = read_request(&mut stream) else {
         return Ok(());
     };
     let text = match request {
-        Request::Page => page(host, alloc, shared, paged)?,
+        Request::Page => page(host, alloc, shared, paged, true)?,
+        Request::Head => page(host, alloc, shared, paged, false)?,
         Request::Elsewhere => other(alloc, "404 Not Found")?,
-        Request::Otherwise => other(alloc, "405 Method Not Allowed\r\nAllow: GET")?,
+        Request::Otherwise => other(alloc, "405 Method Not Allowed\r\nAllow: GET, HEAD")?,
         Request::Wrong => other(alloc, "400 Bad Request")?,
         Request::Long => other(alloc, "431 Request Header Fields Too Large")?,
     };
     stream.write_all(text.as_bytes())?;
-    stream.shutdown(Shutdown::Write)
+    stream.end()
 }
 
-/// The page with its head.
+/// The page's head, and the page if it is asked for.
 fn page<H: Host, P: Paged>(
     host: &H,
     alloc: Global,
     shared: &Shared<H>,
     paged: &P,
+    whole: bool,
 ) -> Result<String, AllocError> {
-    let page = paged.page(Holdings::of(host, shared))?;
+    let page = paged.page(&Holdings::of(host, shared)?)?;
+    let body = if whole { page.as_str() } else { "" };
     format!(in alloc;
-        "HTTP/1.1 200 OK\r\nContent-Type: text/plain; version=0.0.4\r\nContent-Length: {}\r\nConnection: close\r\n\r\n{page}",
+        "HTTP/1.1 200 OK\r\nContent-Type: text/plain; version=0.0.4\r\nContent-Length: {}\r\nConnection: close\r\n\r\n{body}",
         page.len()
     )
 }

@@ -1,12 +1,12 @@
 //! What is asked over HTTP.
 
+ghost use Rattle.std.specs.Prelude.{◌↔◌, IsTrue, MatchOption};
 ghost use Rattle.httparse.specs.Grammar.{HasNoRequest};
-ghost use Rattle.std.specs.Prelude.{MatchOption};
-ghost use Rattle.tab_metrics.specs.Heads.{IsAskedIn};
+ghost use Rattle.tab_metrics.specs.Heads.{IsAskedIn, NamesPage};
 
 use httparse::Status;
 use httparse::spans::{EMPTY_HEADER_SPAN, parse_request};
-use std::io::Read;
+use std::io::{ErrorKind, Read};
 
 /// So many bytes a request's head has at most, so many headers, and so many pieces that it comes in.
 const HEAD: usize = 8_192;
@@ -19,6 +19,8 @@ const PIECES: usize = 64;
 #[derive(Clone, Copy, Debug, PartialEq, Eq)]
 pub enum Request {
     Page,
+    /// The page's head without the page.
+    Head,
     /// Of another path.
     Elsewhere,
     /// By another method.
@@ -29,7 +31,7 @@ pub enum Request {
     Long,
 }
 
-/// What is asked on the stream. None where it ends, or nothing comes in time.
+/// What is asked on the stream. None if it ends, or a read fails, before a head is whole.
 pub fn read_request<R: Read>(reader: &mut R) -> Option<Request> {
     let mut head = [0u8; HEAD];
     let mut len: usize = 0;
@@ -38,8 +40,11 @@ pub fn read_request<R: Read>(reader: &mut R) -> Option<Request> {
             break;
         }
         match reader.read(&mut head[len..]) {
-            Ok(0) | Err(_) => return None,
+            Ok(0) => return None,
             Ok(count) => len += count,
+            // The process was stopped and goes on: a read with a time limit is not begun again by the system.
+            Err(error) if matches!(error.kind(), ErrorKind::Interrupted) => {}
+            Err(_) => return None,
         }
         if let Some(request) = request_in(&head[..len]) {
             return Some(request);
@@ -56,15 +61,24 @@ fn request_in(head: &[u8]) -> Option<Request>
     match parse_request(head, &mut headers) {
         Ok(Status::Partial) => None,
         Ok(Status::Complete(spans)) => {
-            let path = spans.path.of(head);
-            Some(if path != b"/metrics".as_slice() {
+            let method = spans.method.of(head);
+            Some(if !names_page(spans.path.of(head)) {
                 Request::Elsewhere
-            } else if spans.method.of(head) != b"GET".as_slice() {
-                Request::Otherwise
-            } else {
+            } else if method == b"GET".as_slice() {
                 Request::Page
+            } else if method == b"HEAD".as_slice() {
+                Request::Head
+            } else {
+                Request::Otherwise
             })
         }
         Err(_) => Some(Request::Wrong),
     }
+}
+
+/// Whether a request's target names the page. A query changes nothing.
+fn names_page(target: &[u8]) -> bool
+    ensures { IsTrue result ↔ NamesPage target.now }
+{
+    target == b"/metrics".as_slice() || target.starts_with(b"/metrics?".as_slice())
 }

@@ -5,7 +5,7 @@ use Rattle.clap.proofs.OnLiterals.{clap_on_literals}
 use Rattle.clap.specs.declared.error.kind.ErrorKind.TheVariants.{ArgumentConflict, DisplayHelp, MissingRequiredArgument, MissingSubcommand, UnknownArgument, ValueValidation}
 use Rattle.clap.specs.Kinds.{or_else}
 use Rattle.clap.specs.Words.{Kinds, Text, fault_of, first_of, is_simple, is_simple_and_free, one_of, subcommand_of}
-use Rattle.tab_words.specs.Asked.{address_fault}
+use Rattle.tab_words.specs.Asked.{serve_fault}
 use Rattle.tab_words.specs.CommandLine.{command_line}
 
 pub line_is_simple : is_simple command_line ≡ true
@@ -82,7 +82,7 @@ replay_given = refl
 
 -- words that are refused
 abbrev faults : List Text → Kinds
-faults words = or_else (fault_of command_line (codes "tabd" ∷ words)) (address_fault (subcommand_of command_line (codes "tabd" ∷ words)))
+faults words = or_else (fault_of command_line (codes "tabd" ∷ words)) (serve_fault (subcommand_of command_line (codes "tabd" ∷ words)))
 
 pub none_wrong : faults serving ≡ []
 unfolding clap_on_literals
@@ -99,6 +99,10 @@ long_journal = refl
 pub no_outbox : faults (codes "replay" ∷ codes "--outbox" ∷ codes "0" ∷ []) ≡ ValueValidation ∷ []
 unfolding clap_on_literals
 no_outbox = refl
+
+pub nothing_given : faults (codes "serve" ∷ []) ≡ MissingRequiredArgument ∷ []
+unfolding clap_on_literals
+nothing_given = refl
 
 pub no_port : faults (codes "serve" ∷ codes "--connections" ∷ codes "2" ∷ []) ≡ MissingRequiredArgument ∷ []
 unfolding clap_on_literals

@@ -61,18 +61,24 @@ abbrev pub IsAddressOf : List Row → Address → Type 0
 IsAddressOf rows (Port n) = IsNumberOf (codes "port") 0 65535 0 rows n × (first_of (codes "socket") rows ≡ None)
 IsAddressOf rows (Socket path) = (first_of (codes "socket") rows ≡ Some (string_bytes path)) × (first_of (codes "port") rows ≡ None)
 
--- what is wrong with the texts of `--port` and of `--socket`: one of them is given, and a path is not empty
-abbrev pub address_kinds : Option Text → Option Text → Kinds
-address_kinds None None = MissingRequiredArgument ∷ []
-address_kinds (Some port) (Some path) = ArgumentConflict ∷ []
-address_kinds (Some port) None = []
-address_kinds None (Some []) = ValueValidation ∷ []
-address_kinds None (Some (b ∷ path)) = []
+-- what is wrong with the texts of `--port`, `--socket` and `--connections`: one of the first two and the third are given, and a path is not empty
+abbrev pub serve_kinds : Option Text → Option Text → Option Text → Kinds
+serve_kinds (Some port) (Some path) connections = ArgumentConflict ∷ []
+serve_kinds None None connections = MissingRequiredArgument ∷ []
+serve_kinds (Some port) None None = MissingRequiredArgument ∷ []
+serve_kinds None (Some path) None = MissingRequiredArgument ∷ []
+serve_kinds (Some port) None (Some count) = []
+serve_kinds None (Some []) (Some count) = ValueValidation ∷ []
+serve_kinds None (Some (b ∷ path)) (Some count) = []
 
--- the same of a command, where it is `serve`
-abbrev pub address_fault : Option (Text × List Row) → Kinds
-address_fault None = []
-address_fault (Some c) = if bytes_eq c.0 (codes "serve") then address_kinds (first_of (codes "port") c.1) (first_of (codes "socket") c.1) else []
+-- the same of a command's options
+abbrev pub serve_kinds_of : List Row → Kinds
+serve_kinds_of rows = serve_kinds (first_of (codes "port") rows) (first_of (codes "socket") rows) (first_of (codes "connections") rows)
+
+-- and of a command, if it is `serve`
+abbrev pub serve_fault : Option (Text × List Row) → Kinds
+serve_fault None = []
+serve_fault (Some c) = if bytes_eq c.0 (codes "serve") then serve_kinds_of c.1 else []
 
 -- a run is what the words ask for: the command that they name, with its options; the parser refuses words that name none
 abbrev pub IsAskedBy : Option (Text × List Row) → Run → Type 0

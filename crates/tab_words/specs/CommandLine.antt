@@ -18,10 +18,6 @@ text_rule name = record (new_rule name) { long = Some name; action = Some Set; v
 abbrev pub flag_rule : Text → Rule
 flag_rule name = record (new_rule name) { long = Some name; action = Some SetTrue }
 
--- the option has to be given
-abbrev pub required : Rule → Rule
-required r = record r { required = true }
-
 -- how many items an outbox holds
 abbrev pub outbox_rule : Rule
 outbox_rule = number_rule (codes "outbox") 1 65536
@@ -35,10 +31,10 @@ with_rules a (r ∷ rules) = with_rules (with_rule a r) rules
 abbrev pub replay_line : App
 replay_line = with_rules (new_app (codes "replay")) (outbox_rule ∷ [])
 
--- `serve` with its options, of which connections has to be given; of port and socket `address_fault` of Asked speaks
+-- `serve` with its options; `serve_fault` of Asked says which of them have to be given
 abbrev pub serve_line : App
 serve_line = with_rules (new_app (codes "serve"))
-    (number_rule (codes "port") 0 65535 ∷ text_rule (codes "socket") ∷ required (number_rule (codes "connections") 1 64) ∷ outbox_rule ∷ number_rule (codes "journal") 16 65536
+    (number_rule (codes "port") 0 65535 ∷ text_rule (codes "socket") ∷ number_rule (codes "connections") 1 64 ∷ outbox_rule ∷ number_rule (codes "journal") 16 65536
     ∷ flag_rule (codes "forever") ∷ flag_rule (codes "batches") ∷ number_rule (codes "idle") 1 86400 ∷ flag_rule (codes "log") ∷ number_rule (codes "metrics") 0 65535 ∷ flag_rule (codes "abort-waits") ∷ [])
 
 -- the program with its version, which wants a command

@@ -2,10 +2,13 @@
 
 ghost use Rattle.std.specs.Prelude.{◌≡◌, IfOk, IsFalse, codes};
 ghost use Rattle.clap.specs.Words.{app_of, rule_of};
-ghost use Rattle.tab_words.specs.CommandLine.{command_line, flag_rule, has_globals, number_rule, outbox_rule, replay_line, required, serve_line, text_rule};
+ghost use Rattle.tab_words.specs.CommandLine.{command_line, flag_rule, has_globals, number_rule, outbox_rule, replay_line, serve_line, text_rule};
 
 use clap::{Arg, ArgAction, Command, value_parser};
 use std::alloc::{AllocError, Global};
+
+/// The version of the program.
+pub const VERSION: &str = "0.1.0";
 
 /// An option with a number in this range.
 fn number_of<'a>(alloc: Global, name: &'a str, value: &'a str, least: u32, most: u32) -> Arg<'a>
@@ -63,12 +66,12 @@ fn socket<'a>(alloc: Global) -> Arg<'a>
 }
 
 fn connections<'a>(alloc: Global) -> Arg<'a>
-    ensures rule { rule_of result ≡ required (number_rule (codes "connections") 1 64) }
+    ensures rule { rule_of result ≡ number_rule (codes "connections") 1 64 }
     ensures own { IsFalse result.global }
 {
-    number_of(alloc, "connections", "COUNT", 1, 64)
-        .help("How many connections are accepted, 1 to 64; with --forever, how many at once")
-        .required(true)
+    number_of(alloc, "connections", "COUNT", 1, 64).help(
+        "How many connections are accepted, 1 to 64; with --forever, how many at once",
+    )
 }
 
 fn journal<'a>(alloc: Global) -> Arg<'a>
@@ -109,9 +112,7 @@ fn log<'a>(alloc: Global) -> Arg<'a>
     ensures rule { rule_of result ≡ flag_rule (codes "log") }
     ensures own { IsFalse result.global }
 {
-    flag(alloc, "log").help(
-        "Each session's start and end has a line on standard error, and why the server ends",
-    )
+    flag(alloc, "log").help("Each session's start and end has a line on standard error")
 }
 
 fn abort_waits<'a>(alloc: Global) -> Arg<'a>
@@ -137,12 +138,16 @@ fn metrics<'a>(alloc: Global) -> Arg<'a>
         .value_parser(value_parser!(u16))
 }
 
-fn serve<'a>(alloc: Global) -> Result<Command<'a>, AllocError>
+/// The command `serve`, whose usage names what has to be given.
+pub fn serve<'a>(alloc: Global) -> Result<Command<'a>, AllocError>
     ensures line { IfOk result (λ c. app_of c ≡ serve_line) }
     ensures own { IfOk result (λ c. IsFalse (has_globals c)) }
 {
     Command::new(alloc, "serve")
         .about("Serves each connection to a port or a socket file as a session")
+        .override_usage(
+            "tabd serve [OPTIONS] --connections <COUNT> <--port <PORT>|--socket <PATH>>",
+        )
         .arg(port(alloc))?
         .arg(socket(alloc))?
         .arg(connections(alloc))?
@@ -170,7 +175,7 @@ pub fn command<'a>(alloc: Global) -> Result<Command<'a>, AllocError>
     ensures { IfOk result (λ c. app_of c ≡ command_line) }
 {
     Command::new(alloc, "tabd")
-        .version("0.1.0")
+        .version(VERSION)
         .about("A server of named in-memory tables with transactions and events")
         .subcommand_required(true)
         .subcommand(replay(alloc)?)?

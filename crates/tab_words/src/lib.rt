@@ -8,5 +8,6 @@ mod command_line;
 mod parsing;
 mod serving;
 
+pub use command_line::VERSION;
 pub use parsing::{Run, asked, words};
 pub use serving::{Address, Log, Service, Sizes};

@@ -3,11 +3,11 @@
 ghost use Rattle.std.specs.Prelude.{◌≡◌, ◌≤◌, ℕ, List, [], ◌∷◌, IfOk, IfSome, IsErrAnd, map, option_map, codes};
 ghost use Rattle.clap.specs.Words.{FailsBy, HasKind, fault_of, first_of, found_of, rows_of, subcommand_of, subcommand_rows_of};
 ghost use Rattle.clap.specs.Kinds.{or_else};
-ghost use Rattle.tab_words.specs.Asked.{IsAddressOf, IsAskedBy, IsFlagOf, IsNumberOf, IsServiceOf, MayBeNumberOf, address_fault, address_kinds, is_batches, is_full};
+ghost use Rattle.tab_words.specs.Asked.{IsAddressOf, IsAskedBy, IsFlagOf, IsNumberOf, IsServiceOf, MayBeNumberOf, is_batches, is_full, serve_fault, serve_kinds_of};
 ghost use Rattle.tab_words.specs.CommandLine.{command_line};
 ghost use Rattle.tab_words.specs.Words.{AreInRange, AreSizes, IsIdle};
 
-use crate::command_line::command;
+use crate::command_line::{command, serve};
 use crate::serving::{Address, Log, Service, Sizes};
 use clap::error::ErrorKind;
 use clap::{ArgMatches, Error};
@@ -32,7 +32,7 @@ pub fn words<'a, S: AsStr>(alloc: Global, words: &'a [S]) -> Result<Run, Error>
         (IsAskedBy (subcommand_of command_line (map S.text words.entry.now))) }
     ensures fails { FailsBy
         (or_else (fault_of command_line (map S.text words.entry.now))
-        (address_fault (subcommand_of command_line (map S.text words.entry.now)))) result }
+        (serve_fault (subcommand_of command_line (map S.text words.entry.now)))) result }
 {
     let matches = command(alloc)?.try_get_matches_from(words)?;
     run_of(alloc, &matches)
@@ -42,11 +42,11 @@ pub fn words<'a, S: AsStr>(alloc: Global, words: &'a [S]) -> Result<Run, Error>
 fn run_of(alloc: Global, matches: &ArgMatches<'_>) -> Result<Run, Error>
     ensures range { IfOk result AreInRange }
     ensures asked { IfOk result (IsAskedBy (subcommand_rows_of matches.now)) }
-    ensures fails { FailsBy (address_fault (subcommand_rows_of matches.now)) result }
+    ensures fails { FailsBy (serve_fault (subcommand_rows_of matches.now)) result }
 {
-    if let Some(serve) = matches.subcommand_matches("serve") {
-        let address = address(alloc, serve)?;
-        return Ok(Run::Serve(address, service(serve)));
+    if let Some(options) = matches.subcommand_matches("serve") {
+        let address = address(alloc, options)?;
+        return Ok(Run::Serve(address, service(options)));
     }
     Ok(Run::Replay {
         outbox: match matches.subcommand_matches("replay") {
@@ -56,23 +56,33 @@ fn run_of(alloc: Global, matches: &ArgMatches<'_>) -> Result<Run, Error>
     })
 }
 
-/// Where clients are to connect. The parser itself has no rule of one option on another: docs/DECISIONS.md says why.
+/// Where clients are to connect; also that the number of connections is given. The parser itself has no rule of one option on
+/// another: docs/DECISIONS.md says why.
 fn address(alloc: Global, matches: &ArgMatches<'_>) -> Result<Address, Error>
     ensures asked { IfOk result (IsAddressOf (rows_of (found_of matches.now))) }
-    ensures fails { FailsBy
-        (address_kinds (first_of (codes "port") (rows_of (found_of matches.now)))
-        (first_of (codes "socket") (rows_of (found_of matches.now)))) result }
+    ensures fails { FailsBy (serve_kinds_of (rows_of (found_of matches.now))) result }
 {
+    let connections = written(matches, "connections");
     match (written(matches, "port"), written(matches, "socket")) {
-        (None, None) => refused(
-            alloc,
-            ErrorKind::MissingRequiredArgument,
-            "one of --port <PORT> and --socket <PATH> has to be given",
-        ),
         (Some(_), Some(_)) => refused(
             alloc,
             ErrorKind::ArgumentConflict,
-            "only one of --port <PORT> and --socket <PATH> can be given",
+            "the argument '--port <PORT>' cannot be used with '--socket <PATH>'",
+        ),
+        (None, None) if connections.is_none() => refused(
+            alloc,
+            ErrorKind::MissingRequiredArgument,
+            "the following required arguments were not provided:\n  --connections <COUNT>\n  <--port <PORT>|--socket <PATH>>",
+        ),
+        (None, None) => refused(
+            alloc,
+            ErrorKind::MissingRequiredArgument,
+            "the following required arguments were not provided:\n  <--port <PORT>|--socket <PATH>>",
+        ),
+        _ if connections.is_none() => refused(
+            alloc,
+            ErrorKind::MissingRequiredArgument,
+            "the following required arguments were not provided:\n  --connections <COUNT>",
         ),
         (Some(_), None) => Ok(Address::Port(port(matches))),
         (None, Some(path)) if path.is_empty() => refused(
@@ -92,10 +102,11 @@ fn written<'a>(matches: &ArgMatches<'a>, name: &str) -> Option<&'a str>
     matches.get_str(name)
 }
 
+/// With the usage of `serve`.
 fn refused(alloc: Global, kind: ErrorKind, message: &str) -> Result<Address, Error>
     ensures { IsErrAnd result (HasKind (kind ∷ [])) }
 {
-    Err(command(alloc)?.error(kind, message)?)
+    Err(serve(alloc)?.error(kind, message)?)
 }
 
 fn service(matches: &ArgMatches<'_>) -> Service

@@ -16,9 +16,9 @@ pub enum Address {
 /// What of a server's notes has a line.
 #[derive(Clone, Copy, Debug, PartialEq, Eq)]
 pub enum Log {
-    /// What keeps it from serving, and whom it ends.
+    /// What keeps it from serving, the sessions that it ends, and why the server ends.
     Brief,
-    /// Each session's start and end too, and why the server ends.
+    /// Each session's start and end too.
     Full,
 }
 

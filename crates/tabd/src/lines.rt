@@ -3,7 +3,7 @@
 use std::alloc::{AllocError, Global};
 use std::io;
 use std::sync::{Mutex, Wait};
-use std::time::Clock;
+use std::time::{Clock, Duration};
 use tab_etf::{Target, give_all};
 use tab_metrics::{Holdings, Meters, Paged, page_of};
 use tab_server::{Count, Counts, Gate, Note, Notes};
@@ -89,11 +89,15 @@ impl<R: Wait + Clock, E: Target> Counts for Lines<R, E> {
 }
 
 impl<R: Wait + Clock, E: Target> Paged for Lines<R, E> {
-    fn page(&self, holdings: Holdings) -> Result<String, AllocError> {
+    fn page(&self, holdings: &Holdings) -> Result<String, AllocError> {
         match &self.meters {
             Some(meters) => page_of(&self.rt, self.alloc, meters, holdings),
             None => Ok(String::new(self.alloc)),
         }
+    }
+
+    fn now(&self) -> io::Result<Duration> {
+        self.rt.monotonic()
     }
 }
 
@@ -124,8 +128,6 @@ impl<R: Wait + Clock, E: Target> Notes for Lines<R, E> {
     }
 
     fn fault(&self, error: &io::Error) {
-        if matches!(self.log, Log::Full) {
-            *self.reason.lock(&self.rt) = format!(in self.alloc; "tabd: {error}\n").ok();
-        }
+        *self.reason.lock(&self.rt) = format!(in self.alloc; "tabd: {error}\n").ok();
     }
 }

@@ -11,13 +11,14 @@ mod socket_file;
 
 use lines::Lines;
 use running::run;
+use serving::Service;
 use std::marker::Brand;
 use std::process::ExitCode;
 use tab_etf::Counted;
-use tab_metrics::Meters;
+use tab_metrics::{About, Meters};
 use tab_post::Opened;
 use tab_session::{Ended, replay};
-use tab_words::{Log, Run, asked};
+use tab_words::{Log, Run, VERSION, asked};
 
 fn main(rt: HostRuntime) -> ExitCode {
     let mut input = Counted::new(rt.stdin());
@@ -25,7 +26,7 @@ fn main(rt: HostRuntime) -> ExitCode {
     let mut errors = Counted::new(rt.stderr());
     let wanted = asked(&rt);
     let (log, meters) = match &wanted {
-        Ok(Run::Serve(_, service)) => (service.log, service.metrics.map(|_| Meters::new())),
+        Ok(Run::Serve(_, service)) => (service.log, meters(service)),
         _ => (Log::Brief, None),
     };
     let lines = Lines::new(rt, rt.alloc(), log, meters, Counted::new(rt.stderr()));
@@ -41,4 +42,14 @@ fn main(rt: HostRuntime) -> ExitCode {
     );
     lines.put_reason();
     status
+}
+
+/// The counters of a server that has a page of them.
+fn meters(service: &Service) -> Option<Meters> {
+    service.metrics.map(|_| {
+        Meters::new(About {
+            version: VERSION,
+            connections: service.sizes.connections,
+        })
+    })
 }

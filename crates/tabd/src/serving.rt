@@ -16,7 +16,7 @@ use std::thread::Threads;
 use std::time::Duration;
 use std::{io, thread};
 use tab_book::Shared;
-use tab_etf::{Target, give_all};
+use tab_etf::{Broken, Target, give_all};
 use tab_metrics::{Closing, Paged, serve_pages};
 use tab_post::{Channel, Host, Naming, Opened};
 use tab_server::{Delivery, Gate, Listener, Notes, Settings, serve, serve_forever};
@@ -39,7 +39,16 @@ fn settings(delivery: Delivery, idle: Option<u32>, aborts: bool) -> Settings
     }
 }
 
-/// Listens at the address, says so, and serves: until all sessions have ended, or for good. A socket file is removed at the end.
+/// The listeners for clients and for the page of counters, and the lines that name their addresses.
+#[derive(Drop)]
+struct Listening<'a> {
+    clients: &'a Listener,
+    pages: Option<TcpListener>,
+    lines: String,
+}
+
+/// Listens at the address, serves, and says so once nothing else can keep it from that: until all sessions have ended, or for
+/// good. A socket file is removed at the end.
 pub fn listen<J, R, W, G>(
     rt: R,
     alloc: Global,
@@ -74,7 +83,7 @@ where
     }
 }
 
-/// Listens for who asks for the counters too, says where, and serves.
+/// Listens for who asks for the counters too, and serves.
 fn serve_at<J, R, W, G>(
     rt: R,
     alloc: Global,
@@ -92,46 +101,50 @@ where
     G: Gate + Notes + Paged + Sync,
     requires { opened ≡ J.book }
 {
-    match pages_beside(&rt, alloc, place, service.metrics, output, gate) {
-        Ok(pages) => {
+    match listen_for_pages(&rt, alloc, clients, place, service.metrics, gate) {
+        Ok(listening) => {
             let host = (rt, PhantomData::<J>);
-            serve_on(host, alloc, opened, clients, &pages, service, gate)
+            serve_on(host, alloc, opened, &listening, service, output, gate)
         }
         Err(ended) => End::Stopped(ended),
     }
 }
 
-/// Says where it listens, at once, so that clients can connect.
-fn pages_beside<R, W, N>(
+/// Listens for clients of the page, if it is wanted.
+fn listen_for_pages<'a, R, N>(
     rt: &R,
     alloc: Global,
+    clients: &'a Listener,
     place: &Place<'_>,
     metrics: Option<u16>,
-    output: &mut W,
     notes: &N,
-) -> Result<Option<TcpListener>, Ended>
+) -> Result<Listening<'a>, Ended>
 where
     R: Net<Listener = TcpListener, Stream = TcpStream>,
-    W: Target,
     N: Notes,
 {
+    let mut lines = line_of(alloc, place).map_err(|_| Ended::NoMemory)?;
     let pages = match metrics {
-        Some(port) => Some(listen_on(rt, port).map_err(|error| refused(&error, notes))?),
-        None => None,
-    };
-    match place {
-        Place::Port(port) => say_port(alloc, output, "listening", *port)?,
-        Place::File(file) => say_path(alloc, output, file.path())?,
-    }
-    let pages = match pages {
-        Some((pages, port)) => {
-            say_port(alloc, output, "metrics", port)?;
+        Some(wanted) => {
+            let (pages, port) = listen_on(rt, wanted).map_err(|error| refused(&error, notes))?;
+            write!(lines, "metrics on 127.0.0.1:{port}\n").map_err(|_| Ended::NoMemory)?;
             Some(pages)
         }
         None => None,
     };
-    output.flush()?;
-    Ok(pages)
+    Ok(Listening {
+        clients,
+        pages,
+        lines,
+    })
+}
+
+/// The line that names the address for clients.
+fn line_of(alloc: Global, place: &Place<'_>) -> Result<String, AllocError> {
+    match place {
+        Place::Port(port) => format!(in alloc; "listening on 127.0.0.1:{port}\n"),
+        Place::File(file) => format!(in alloc; "listening on {}\n", file.path()),
+    }
 }
 
 fn refused<N: Notes>(error: &io::Error, notes: &N) -> Ended {
@@ -139,62 +152,87 @@ fn refused<N: Notes>(error: &io::Error, notes: &N) -> Ended {
     Ended::Device
 }
 
-fn say_port<W: Target>(alloc: Global, output: &mut W, what: &str, port: u16) -> Result<(), Ended> {
-    let line = format!(in alloc; "{what} on 127.0.0.1:{port}\n").map_err(|_| Ended::NoMemory)?;
-    give_all(output, line.as_bytes())?;
-    Ok(())
-}
-
-fn say_path<W: Target>(alloc: Global, output: &mut W, path: &str) -> Result<(), Ended> {
-    let line = format!(in alloc; "listening on {path}\n").map_err(|_| Ended::NoMemory)?;
-    give_all(output, line.as_bytes())?;
-    Ok(())
-}
-
-/// Serves clients, beside a thread for who asks for the counters.
-fn serve_on<H: Host + Threads + Send + Sync, G: Gate + Notes + Paged + Sync>(
+/// Serves clients, and who asks for the counters in a thread of its own.
+fn serve_on<H, W, G>(
     host: H,
     alloc: Global,
     opened: Opened<Channel>,
-    clients: &Listener,
-    pages: &Option<TcpListener>,
+    listening: &Listening<'_>,
     service: Service,
+    output: &mut W,
     gate: &G,
 ) -> End
+where
+    H: Host + Threads + Send + Sync,
+    W: Target,
+    G: Gate + Notes + Paged + Sync,
     requires { opened ≡ H.book }
 {
     let Ok(book) = opened_book(host, alloc, opened, &service) else {
         return End::Stopped(Ended::NoMemory);
     };
     let shared = Shared::new(book);
-    let closing = Closing::new();
-    match pages {
+    match &listening.pages {
         Some(pages) => beside_pages(
-            &host, alloc, clients, pages, &shared, service, gate, &closing,
+            &host, alloc, listening, pages, &shared, service, output, gate,
         ),
-        None => serve_clients(&host, alloc, clients, &shared, service, gate),
+        None => say_and_serve(&host, alloc, listening, &shared, service, output, gate),
     }
 }
 
-fn beside_pages<H: Host + Threads + Send + Sync, G: Gate + Notes + Paged + Sync>(
+fn beside_pages<H, W, G>(
     host: &H,
     alloc: Global,
-    clients: &Listener,
+    listening: &Listening<'_>,
     pages: &TcpListener,
     shared: &Shared<H>,
     service: Service,
+    output: &mut W,
     gate: &G,
-    closing: &Closing,
-) -> End {
+) -> End
+where
+    H: Host + Threads + Send + Sync,
+    W: Target,
+    G: Gate + Notes + Paged + Sync,
+{
+    let closing = &Closing::new();
     thread::scope(thread::scope_env(), host, |scope| {
         let started = scope.spawn(move || serve_pages(host, alloc, pages, shared, gate, closing));
         if started.is_err() {
             return End::Stopped(Ended::NoMemory);
         }
-        let end = serve_clients(host, alloc, clients, shared, service, gate);
+        let end = say_and_serve(host, alloc, listening, shared, service, output, gate);
         closing.close();
         end
     })
+}
+
+/// Prints the lines, and serves clients. Everything that serving needs exists before.
+fn say_and_serve<H, W, G>(
+    host: &H,
+    alloc: Global,
+    listening: &Listening<'_>,
+    shared: &Shared<H>,
+    service: Service,
+    output: &mut W,
+    gate: &G,
+) -> End
+where
+    H: Host + Threads + Send + Sync,
+    W: Target,
+    G: Gate + Notes + Sync,
+{
+    if say(output, &listening.lines).is_err() {
+        let error = io::Error::other("standard output can't be written");
+        return End::Stopped(refused(&error, gate));
+    }
+    serve_clients(host, alloc, listening.clients, shared, service, gate)
+}
+
+/// At once, so that clients can connect.
+fn say<W: Target>(output: &mut W, lines: &str) -> Result<(), Broken> {
+    give_all(output, lines.as_bytes())?;
+    output.flush()
 }
 
 fn serve_clients<H: Host + Threads + Send + Sync, G: Gate + Notes + Sync>(
@@ -213,9 +251,6 @@ fn serve_clients<H: Host + Threads + Send + Sync, G: Gate + Notes + Sync>(
     let connections = service.sizes.connections;
     match serve(host, alloc, clients, shared, connections, settings, gate) {
         Ok(()) => End::Done,
-        Err(error) => {
-            gate.fault(&error);
-            End::Stopped(Ended::Device)
-        }
+        Err(error) => End::Stopped(refused(&error, gate)),
     }
 }

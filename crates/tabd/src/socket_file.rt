@@ -1,10 +1,11 @@
 //! The file of a Unix socket, which the server makes and removes.
 
+use mio::net::UnixStream;
 use std::fs::Metadata;
 use std::io::ErrorKind;
 use std::net::Net;
 use std::os::unix::fs::{FileTypeExt, MetadataExt};
-use std::os::unix::net::{UnixListener, UnixStream};
+use std::os::unix::net::UnixListener;
 use std::rt::Files;
 use std::{fs, io};
 
@@ -63,6 +64,7 @@ fn is_left<R: Net + Files>(rt: &R, path: &str) -> bool {
     }
 }
 
+/// Whether no one listens. The connection waits for nothing: one that would have to wait for a listener has one.
 fn is_refused<R: Net>(rt: &R, path: &str) -> bool {
     match UnixStream::connect(rt, path) {
         Ok(_) => false,
