@@ -43,9 +43,13 @@ def pytest_configure(config: pytest.Config) -> None:
 
 @pytest.hookimpl(tryfirst=True)
 def pytest_cmdline_main(config: pytest.Config) -> None:
-    """A run of everything takes all processors, unless it says otherwise; one that names cases takes this process."""
+    """A run of everything takes all processors, unless it says otherwise; one that names cases takes this process. A worker of xdist has the
+    same arguments and no number of processes, and must not start workers of its own."""
     option = config.option
-    is_whole = all(os.path.isdir(it) for it in config.args) and not (option.keyword or option.markexpr or option.lf or option.collectonly)
+    if hasattr(config, "workerinput"):
+        return
+    chosen = option.keyword or option.markexpr or getattr(option, "lf", False) or option.collectonly
+    is_whole = not chosen and all(os.path.isdir(it) for it in config.args)
     if is_whole and getattr(option, "numprocesses", 0) is None and not option.usepdb and option.capture != "no":
         option.numprocesses, option.dist = "auto", "loadgroup"
 
