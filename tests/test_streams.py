@@ -1,6 +1,6 @@
 """The replay of the built program over streams whose replies are known: whole, in pieces, cut, and on devices that fail.
 
-It is some twenty thousand runs.
+It is some twenty thousand runs. The known replies are also those of the model (sessions.py), which makes them from the requests.
 """
 
 import itertools
@@ -15,7 +15,10 @@ from typing import Set
 
 import pytest
 
+from tests.lib import planted
+from tests.lib.sessions import Book
 from tests.lib.streams import DEVICE, streams
+from tests.lib.wire import term_of
 
 SECONDS = 60
 # A stream of at most so many bytes is cut at each of them: all but those of a thousand operations or of hundreds of sessions and
@@ -154,6 +157,17 @@ def differ(runs):
             same = "the output as it should be" if found[1] == wanted[1] else f"{len(found[1])} bytes, wanted {len(wanted[1])}"
             faults.append(f"{name}: status {found[0]}, wanted {wanted[0]}; {found[2]}; {same}")
     return faults[:5]
+
+
+@each_stream
+def test_the_model_gives_the_replies(stream):
+    assert list(map(term_of, Book(stream.outbox).frames(stream.given))) == list(map(term_of, stream.told))
+    assert Book(stream.outbox).frames(stream.given) == stream.told
+
+
+@pytest.mark.parametrize("model", planted.PLANTED)
+def test_a_planted_model_is_found(model):
+    assert any(model(stream.outbox).frames(stream.given) != stream.told for stream in STREAMS)
 
 
 @each_stream

@@ -285,8 +285,9 @@ class Judge:
         return bool(depths[0])
 
     def run(self):
-        """Runs each serially, on the tables after those before it."""
-        self.worlds, self.batches = [EMPTY], [None]
+        """Each alone, on the tables of those before it."""
+        self.worlds = [EMPTY]
+        self.batches: List[List[Tuple[str, Dict[str, Any]]]] = [[]]
         for commit in self.commits:
             updates, fault = commit.who.alone(self.worlds[-1])
             if fault:
@@ -297,7 +298,7 @@ class Judge:
                 raise Differs(f"commit {commit.who.number}, of age {commit.age}: its events are {commit.told}, wanted {wanted}")
             self.worlds.append(tables)
             self.batches.append(told)
-        self.touched = {tab: [at for at, told in enumerate(self.batches) if told and any(it[0] == tab for it in told)] for tab in EMPTY}
+        self.touched = {tab: [at for at, told in enumerate(self.batches) if any(it[0] == tab for it in told)] for tab in EMPTY}
 
     def number(self):
         """The commits' numbers: each once, and enough other ones for the commits whose replies have none."""
@@ -501,7 +502,7 @@ class Follower:
             return []
         if dump:
             at = [place for place in at if whole(self.judge.worlds[place][tab]) == term[3]]
-            self.copies[tab] = dict(self.judge.worlds[at[0]][tab]) if at else None
+            self.copies[tab] = dict(self.judge.worlds[at[0]][tab].rows) if at else None
         self.level[tab] = level
         return at
 
@@ -510,7 +511,7 @@ class Follower:
         if term != ("mnesia_table_end", tab, "unsubscribed") or self.level.pop(tab, None) != level:
             return []
         copy = self.copies.pop(tab, None)
-        if copy is not None and all(copy != self.judge.worlds[place][tab] for place in at):
+        if copy is not None and all(copy != self.judge.worlds[place][tab].rows for place in at):
             raise Differs(f"its copy of {tab} is not the table")
         return at
 
