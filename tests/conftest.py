@@ -23,6 +23,7 @@ FAILED = pytest.StashKey[bool]()
 def pytest_addoption(parser: pytest.Parser) -> None:
     parser.addoption("--tabd", metavar="PATH", default=BUILT, help="the program to test (default: $TABD, or crates/tabd/out/tabd)")
     parser.addoption("--rounds", type=int, default=4, help="so many rounds of test_history.py, of four seconds each (default: 4)")
+    parser.addoption("--seeds", type=int, default=20, help="so many seeds of test_interleavings.py (default: 20)")
     parser.addoption("--seed", type=int, default=1, help="the seed of the first round; each that follows has the next (default: 1)")
     parser.addoption("--examples", type=int, help="so many new examples of each property (default: 40, the same in each run)")
     parser.addoption("--wrong", action="store_true", help="also that each wrong server and program is found, in some minutes")

@@ -496,6 +496,7 @@ def test_an_accept_that_fails(serve):
     first = server.connect()
     script((first, CREATE, ATOMIC), (first, "begin", ("tid", 1)))
     # The accept that waits has its handle already.
+    server.accepts()
     resource.prlimit(server.process.pid, resource.RLIMIT_NOFILE, (3, 3))
     assert server.connect().stream.read() == b"", "the next"
     script((first, write(1, "a"), OK), (first, "commit", ("atomic", 1)))

@@ -158,6 +158,7 @@ def test_no_accept(place):
         first = Connection(place.path)
         script((first, CREATE, ATOMIC))
         # The accept that waits has its handle already.
+        server.accepts()
         resource.prlimit(server.process.pid, resource.RLIMIT_NOFILE, (3, 3))
         assert Connection(place.path).stream.read() == b"", "the next"
         first.close()
