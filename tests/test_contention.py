@@ -12,12 +12,13 @@ import statistics
 import subprocess
 import threading
 import time
-from typing import List
+from typing import Any, Callable, List, Tuple
 
 import pytest
 
 from tests.lib.checks import ATOMIC, CREATE, OK, one_shot, script, side_by_side, waits, write
-from tests.lib.wire import frame
+from tests.lib.servers import Server
+from tests.lib.wire import Connection, frame
 
 served, pytestmark = pytest.mark.served, [pytest.mark.serial, pytest.mark.tries(3)]
 
@@ -38,28 +39,28 @@ TRIES, PAUSE = 15, 2.0
 KEYS, ASKED = 30_000, 50
 
 
-def timed(call, *given):
+def timed(call: Callable[..., Any], *given: Any) -> Tuple[Any, ...]:
     """What it gives, and how many seconds it took."""
     began = time.monotonic()
     return call(*given), time.monotonic() - began
 
 
-def between(what, least, seconds, most):
+def between(what: str, least: float, seconds: float, most: float) -> None:
     assert least <= seconds <= most, f"{what}: {seconds:.3f} s, wanted {least} to {most}"
 
 
-def middle(what, seconds, most):
+def middle(what: str, seconds: List[float], most: float) -> None:
     between(f"{what}, in the middle", 0, statistics.median(seconds), most)
 
 
-def opened(*connections):
+def opened(*connections: Connection) -> None:
     """Each has a transaction, in the order of their ages."""
     for connection in connections:
         assert connection.ask("begin")[0] == "tid", "begin"
 
 
-def resting(holder, *others):
-    """The holder has locked record 1; each of the others has done something and backs off for it."""
+def resting(holder: Connection, *others: Connection) -> None:
+    """The holder has record 1; each of the others has done something and rests for it."""
     opened(holder, *others)
     script((holder, WREAD, [("t", 1, 0)]))
     for number, other in enumerate(others, 2):
@@ -68,21 +69,21 @@ def resting(holder, *others):
     time.sleep(0.02)
 
 
-def table_of(connection):
+def table_of(connection: Connection) -> None:
     """A table with record 1."""
     script((connection, CREATE, ATOMIC), (connection, one_shot(write(1, 0)), ("atomic", [OK])))
 
 
-def received_after(connection, reply):
-    """The pending reply, and when it came."""
+def received_after(connection: Connection, reply: Any) -> Any:
+    """The reply that is due, and when it came."""
     found, seconds = timed(connection.receive)
     assert found == ("reply", reply)
     return seconds
 
 
 @served(2)
-def test_a_restart_comes(clients):
-    """One thread drives both: the restart comes while the other's transaction is open, and the younger goes on after it."""
+def test_a_restart_comes(clients: List[Connection]) -> None:
+    """One thread drives both: the restart comes while the other's transaction is open, and the younger goes on behind it."""
     older, younger = clients
     script((older, CREATE, ATOMIC))
     opened(older, younger)
@@ -94,7 +95,7 @@ def test_a_restart_comes(clients):
 
 
 @served(2)
-def test_two_upgrades(clients):
+def test_two_upgrades(clients: List[Connection]) -> None:
     """Both read, both write: the older waits until the younger was restarted."""
     older, younger = clients
     script((older, CREATE, ATOMIC))
@@ -108,8 +109,8 @@ def test_two_upgrades(clients):
 
 
 @served(3)
-def test_no_overtaking(clients):
-    """A request after an older queued one backs off, though it does not conflict with the granted lock."""
+def test_no_overtaking(clients: List[Connection]) -> None:
+    """Who asks behind a request that is queued and older rests, though the lock that is held would let it pass."""
     first, second, third = clients
     script((first, CREATE, ATOMIC))
     opened(first, second, third)
@@ -122,7 +123,7 @@ def test_no_overtaking(clients):
 
 
 @served(2)
-def test_phantom(clients):
+def test_phantom(clients: List[Connection]) -> None:
     """A look-up by an index is not joined by a record that was not there."""
     reader, writer = clients
     create = ("create_table", "x", [("attributes", ["k", "v"]), ("index", ["v"])])
@@ -133,8 +134,8 @@ def test_phantom(clients):
 
 @served(2)
 @pytest.mark.parametrize("end", [("abort", "why"), "commit"], ids=["an abort", "a commit"])
-def test_an_end_wakes(clients, end):
-    """A session in back-off gets `restart` as soon as the holder's transaction ends, and then goes on."""
+def test_an_end_wakes(clients: List[Connection], end: Any) -> None:
+    """Who rests is told to restart as soon as the holder's transaction ends, and then goes on."""
     holder, other = clients
     table_of(holder)
     took = []
@@ -148,8 +149,8 @@ def test_an_end_wakes(clients, end):
 
 
 @served(2)
-def test_a_commit_grants(clients):
-    """A session that waits gets its lock as soon as the holder's transaction ends."""
+def test_a_commit_grants(clients: List[Connection]) -> None:
+    """Who waits has its lock as soon as the holder's transaction ends."""
     older, holder = clients
     table_of(holder)
     took = []
@@ -165,8 +166,8 @@ def test_a_commit_grants(clients):
 
 
 @served(3)
-def test_the_oldest_first(clients):
-    """Of two in back-off for one record the older goes on first, and the younger not before its end, if it ends soon."""
+def test_the_oldest_first(clients: List[Connection]) -> None:
+    """Of two that rest for one record the older goes on first, and the younger not before its end, if it ends soon."""
     holder, older, younger = clients
     table_of(holder)
     early = 0
@@ -184,8 +185,8 @@ def test_the_oldest_first(clients):
 
 
 @served(3)
-def test_an_idle_one_is_passed(clients):
-    """The older got `restart` and does nothing: the younger goes on nevertheless, after one or two sleeps."""
+def test_an_idle_one_is_passed(clients: List[Connection]) -> None:
+    """The older was told to go on and does nothing: the younger goes on all the same, after a nap or two."""
     holder, older, younger = clients
     table_of(holder)
     took = []
@@ -201,8 +202,8 @@ def test_an_idle_one_is_passed(clients):
 
 
 @served(3)
-def test_one_vanishes(clients):
-    """A client that vanishes during a back-off leaves, and its locks are released; the next one goes on."""
+def test_one_vanishes(clients: List[Connection]) -> None:
+    """Who vanishes while it rests leaves, and what it held is free; the next goes on."""
     holder, first, second = clients
     table_of(holder)
     resting(holder, first, second)
@@ -213,11 +214,11 @@ def test_one_vanishes(clients):
 
 
 @served(2)
-def test_opposite_orders(clients):
-    """One-shots of forty writes in opposite orders: a one-shot's steps are done together, so none is ever restarted."""
+def test_opposite_orders(clients: List[Connection]) -> None:
+    """One-shots of forty writes in opposite orders: a one-shot's steps stand together, so none is ever restarted."""
     keys = list(range(40))
 
-    def write_all(connection, order):
+    def write_all(connection: Connection, order: Any) -> None:
         for number in range(100):
             told = connection.ask(one_shot(*(write(key, number) for key in order)))
             assert told == ("atomic", [OK] * len(keys)), "one-shot"
@@ -227,7 +228,7 @@ def test_opposite_orders(clients):
 
 
 @served(2)
-def test_a_one_shot_is_patient(clients):
+def test_a_one_shot_is_patient(clients: List[Connection]) -> None:
     """Its retries are its patience, a tenth of a second each."""
     holder, other = clients
     script((holder, CREATE, ATOMIC), (holder, "begin", ("tid", 1)), (holder, WREAD, []))
@@ -242,18 +243,18 @@ def test_a_one_shot_is_patient(clients):
 
 
 @served(2)
-def test_long_answers(clients):
-    """A one-shot with a long reply lets other requests in between its members: another's read waits at most a quarter of it."""
+def test_long_answers(clients: List[Connection]) -> None:
+    """A one-shot that is told much lets others in between its answers: another's read waits at most a quarter of it."""
     asker, other = clients
     script((asker, CREATE, ATOMIC))
     for first in range(0, KEYS, 1_000):
         script((asker, one_shot(*(write(key, 0) for key in range(first, first + 1_000))), ("atomic", [OK] * 1_000)))
 
-    def ask_all():
+    def ask_all() -> None:
         asker.send(one_shot(*[("all_keys", "t")] * ASKED))
         asker.payload()
 
-    def read_on():
+    def read_on() -> None:
         time.sleep(0.02)
         while whole.is_alive():
             waited.append(timed(other.ask, one_shot(READ))[1])
@@ -269,11 +270,11 @@ def test_long_answers(clients):
 
 
 @served(16)
-def test_sixteen_raise(clients):
+def test_sixteen_raise(clients: List[Connection]) -> None:
     """Sixteen raise one record, each after a read for a write; how often they are restarted."""
     each, restarts = 25, []
 
-    def attempt(connection):
+    def attempt(connection: Connection) -> None:
         connection.ask("begin")
         while True:
             found = connection.ask(WREAD)
@@ -282,7 +283,7 @@ def test_sixteen_raise(clients):
             restarts.append(connection)
         assert connection.ask("commit")[0] == "atomic", "commit"
 
-    def raise_all(connection):
+    def raise_all(connection: Connection) -> None:
         for _ in range(each):
             attempt(connection)
 
@@ -294,12 +295,12 @@ def test_sixteen_raise(clients):
 
 
 @served(16)
-def test_mixed_load(clients):
+def test_mixed_load(clients: List[Connection]) -> None:
     """Transactions and one-shots over three records, in opposite orders, some of which abort, for a while: no one-shot is
     given up, the sum is right, and each session makes progress."""
     end, raised, longest = time.monotonic() + SECONDS, [], [0.0]
 
-    def raise_one(connection, chance):
+    def raise_one(connection: Connection, chance: random.Random) -> None:
         connection.ask("begin")
         while True:
             found = connection.ask(("wread", ("t", 0)))
@@ -311,11 +312,11 @@ def test_mixed_load(clients):
             assert connection.ask("commit")[0] == "atomic", "commit"
             raised.append(1)
 
-    def write_both(connection, keys, value):
+    def write_both(connection: Connection, keys: Any, value: Any) -> None:
         told = connection.ask(one_shot(*(write(key, value) for key in keys), retries=1000))
         assert told == ("atomic", [OK, OK]), "one-shot"
 
-    def load(connection, seed):
+    def load(connection: Connection, seed: int) -> None:
         chance, keys = random.Random(seed), (1, 2) if seed % 2 else (2, 1)
         while time.monotonic() < end:
             if chance.random() < 0.5:
@@ -334,7 +335,7 @@ def test_mixed_load(clients):
 
 
 @pytest.fixture(scope="module")
-def load(tmp_path_factory):
+def load(tmp_path_factory: pytest.TempPathFactory) -> Any:
     """A client that loses no time, in C."""
     built = str(tmp_path_factory.mktemp("load") / "load")
     source = os.path.join(os.path.dirname(__file__), "..", "bench", "beside.c")
@@ -342,8 +343,8 @@ def load(tmp_path_factory):
     return built
 
 
-def again_of(server, load):
-    """The share of the commits at one record that came after one of the same connection."""
+def again_of(server: Server, load: Any) -> Any:
+    """Which share of the commits at one record came behind one of the same connection."""
     first = server.connect()
     script((first, CREATE, ATOMIC))
     first.close()
@@ -357,9 +358,9 @@ def again_of(server, load):
 
 
 @pytest.mark.tries(1)
-def test_turns_at_one_record(serve, load):
-    """Sessions that contend for one record take turns: a session that begins its next transaction at once does not lock the record again and
-    again, before the sessions that wait for it are awake."""
+def test_turns_at_one_record(serve: Callable[..., Server], load: Any) -> None:
+    """Sessions that meet at one record take turns: a session whose next transaction comes at once does not have the record again and
+    again, before those who wait for it are awake."""
     found: List[float] = []
     while len(found) < TRIES and not any(share <= MOST_AGAIN for share in found):
         time.sleep(PAUSE if found else 0)

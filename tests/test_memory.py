@@ -6,6 +6,7 @@ it. Each case has a server of its own.
 """
 
 import resource
+from typing import Any, Callable, Iterator
 
 import pytest
 
@@ -42,13 +43,14 @@ from tests.lib.holding import (
     transaction,
     whole_reads,
 )
+from tests.lib.wire import Connection
 
 pytestmark = pytest.mark.serial
 
 
 @pytest.fixture
-def held(tabd, request, passed, plain):
-    """A server with the options of the mark `words`. After a case that passes it has printed nothing."""
+def held(tabd: str, request: pytest.FixtureRequest, passed: Callable[[], bool], plain: None) -> Iterator[Any]:
+    """Of the words of the mark `words`. Behind a case that passes it has said nothing."""
     mark = request.node.get_closest_marker("words")
     with Held(tabd, *(mark.args if mark else ())) as server:
         yield server
@@ -61,10 +63,10 @@ EVEN = list(map(halved, range(0, 20_000, 2)))
 FULL = pytest.mark.words("--journal", "16")
 # Thirty megabytes.
 LONG, MANY = long_record(100_000), 300
-# A bound in kilobytes, and a table with a client's requests, made when they are needed. Wrong servers use more: one that copies its replies more
-# than 150,000 in each case, one that builds an item before it sends it some 30,000 in each that is on its way, one whose journal copies its rows some
-# 70,000, one whose maps reserve room for entries that don't come some 38,000 in "rows of a server", and one whose journal limits
-# only entries some 225,000 in "operations in the journal".
+# A bound in kilobytes, and a table with what a client makes the server hold, made when they are needed: one that copies what it tells
+# holds more than 150,000 in each, one that builds an item before it sends it some 30,000 in each that is on its way, one whose journal copies its
+# rows some 70,000, one whose maps keep room for entries that don't come some 38,000 in "rows of a server", and one whose journal counts
+# entries alone some 225,000 in "operations in the journal".
 CASES = [
     pytest.param(30_000, lambda: (table(long_record(MEGABYTE), 1), long_reads(1, 200)), id="reads of a long record"),
     pytest.param(30_000, lambda: (table(small_record, 20_000), whole_reads(ALL_KEYS, KEYS, 300)), id="all keys"),
@@ -84,8 +86,8 @@ CASES = [
 
 
 @pytest.mark.parametrize("bound, case", CASES)
-def test_holds(held, bound, case):
-    """At most so many kilobytes in addition to the table."""
+def test_holds(held: Any, bound: Any, case: Any) -> None:
+    """So many kilobytes at most beside the table."""
     make, hold = case()
     alone, all_of = measured(held, make, hold)
     assert all_of - alone <= bound, "kilobytes"
@@ -96,7 +98,7 @@ QUEUED = 16
 ROUNDS, FIRST_ROUNDS, GROWTH = 40, 10, 8_000
 
 
-def test_the_last_lets_go(held):
+def test_the_last_lets_go(held: Any) -> None:
     """What a table, the journal and an outbox hold is given back with the last of them, whichever of the two that is."""
     client, reader, mirror = (held.connect() for _ in range(3))
     script((client, CREATE, ATOMIC))
@@ -108,8 +110,8 @@ def test_the_last_lets_go(held):
     assert growth <= GROWTH, f"{growth} kB more than after {FIRST_ROUNDS} rounds, {GROWTH} at most"
 
 
-def one_round(client, reader, mirror, record, outbox_first):
-    """A record is written, read, dumped, and sent as the old record of an event; then it is deleted."""
+def one_round(client: Connection, reader: Connection, mirror: Any, record: Any, outbox_first: Any) -> None:
+    """A record is written, read, dumped, and told as the old record of an event; then the table has it no more."""
     read = ("read", "t", 1)
     script((client, ("transaction", [("write", record)], 0), ("atomic", [OK])))
     transaction(reader, [read] * 10, size_of([record]))
@@ -124,7 +126,7 @@ def one_round(client, reader, mirror, record, outbox_first):
         empty_outbox(mirror, record)
 
 
-def empty_outbox(mirror, record):
+def empty_outbox(mirror: Any, record: Any) -> None:
     told = [mirror.receive() for _ in range(4 * QUEUED)]
     assert told.count(begin_mark([record])) == QUEUED, "dumps"
     holds("old records", [term[1][3] for term in told if term[0] == "mnesia_table_event"] == [[record]])
@@ -136,7 +138,7 @@ def empty_outbox(mirror, record):
 ROOM = 60_000_000
 
 
-def writes_until_refused(client):
+def writes_until_refused(client: Connection) -> Any:
     """Of a megabyte each, in the transaction that is open: how many are made."""
     for key in range(1, 1_000):
         reply = client.ask(("write", ("t", key, bytes(MEGABYTE))))
@@ -146,9 +148,9 @@ def writes_until_refused(client):
     raise AssertionError("no write was refused")
 
 
-def test_no_more_memory(held):
-    """A write without memory is refused. The abort of its transaction frees its memory: others are served, and nothing has
-    changed. With more memory the write is done."""
+def test_no_more_memory(held: Any) -> None:
+    """A write that finds no memory is told so. Aborted, its transaction gives back what it held: others are served, and nothing has
+    changed. With more memory it is made."""
     client, other = held.connect(), held.connect()
     script((client, CREATE, ATOMIC))
     resource.prlimit(held.process.pid, resource.RLIMIT_AS, (held.kilobytes("VmSize") * 1024 + ROOM, resource.RLIM_INFINITY))

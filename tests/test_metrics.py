@@ -4,19 +4,20 @@ import random
 import socket
 import subprocess
 import time
+from typing import Any, Callable, Iterator
 
 import pytest
 
 from tests.lib.checks import ATOMIC, CREATE, HERE_OK, OK, script, side_by_side, waits, watch, write
-from tests.lib.servers import Metered
+from tests.lib.servers import Client, Metered, Server
 
 # A client of the page has so many seconds for its request.
 PATIENCE = 2
 
 
 @pytest.fixture
-def server(tabd, request, passed):
-    """A server with the options of the mark `words`, for four clients. After a case that passes it has printed nothing."""
+def server(tabd: str, request: pytest.FixtureRequest, passed: Callable[[], bool]) -> Iterator[Any]:
+    """Of the words of the mark `words`, for four clients. Behind a case that passes it has said nothing."""
     mark = request.node.get_closest_marker("words")
     with Metered(tabd, 4, *(mark.args if mark else ())) as server:
         yield server
@@ -24,8 +25,8 @@ def server(tabd, request, passed):
             server.is_stopped()
 
 
-def test_each_is_counted(server):
-    """One request after another, and the counters after each."""
+def test_each_is_counted(server: Metered) -> None:
+    """One thing after the other, and each counter beside it."""
     first, second, mirror = server.connect(), server.connect(), server.connect()
     script((first, CREATE, ATOMIC), (mirror, watch(), HERE_OK))
     server.has(sessions=3, sessions_started_total=3, tables=1, records=0, commits_total=0, journal_entries=2, items_sent_total=1)
@@ -44,7 +45,7 @@ def test_each_is_counted(server):
     server.has(open_transactions=0, commits_total=3, aborts_total=3)
 
 
-def test_waits_and_restarts(server):
+def test_waits_and_restarts(server: Metered) -> None:
     older, younger = server.connect(), server.connect()
     script((older, CREATE, ATOMIC), (older, "begin", ("tid", 1)), (younger, "begin", ("tid", 2)), (younger, write(1, "b"), OK))
     older.send(("read", "t", 1))
@@ -62,7 +63,7 @@ def test_waits_and_restarts(server):
     server.has(sessions=1, open_transactions=0, oldest_transaction_seconds=0, aborts_total=2)
 
 
-def test_bytes(server):
+def test_bytes(server: Metered) -> None:
     """As the clients have them: of requests, and of replies and items, short and long."""
     first, mirror = server.connect(), server.connect()
     script((first, CREATE, ATOMIC), (mirror, watch(), HERE_OK))
@@ -79,7 +80,7 @@ def test_bytes(server):
 
 
 @pytest.mark.words("--outbox", "16")
-def test_overflows(server):
+def test_overflows(server: Metered) -> None:
     reader, writer = server.connect(small=True), server.connect()
     script((writer, CREATE, ATOMIC), (reader, watch(), HERE_OK))
     for number in range(1, 201):
@@ -90,13 +91,13 @@ def test_overflows(server):
     server.has(overflows_total=1, commits_total=200)
 
 
-def test_many_clients(server):
-    """Four concurrent clients, at three records: each counter is the sum over their replies."""
+def test_many_clients(server: Metered) -> None:
+    """Four at once, at three records: each counter is the sum of what they were told."""
     clients = [server.connect() for _ in range(4)]
     script((clients[0], CREATE, ATOMIC))
     sums = [dict(commits_total=0, aborts_total=0, given_up_total=0) for _ in clients]
 
-    def run(client, told, seed):
+    def run(client: Client, told: Any, seed: int) -> None:
         chance = random.Random(seed)
         for _ in range(150):
             if chance.random() < 0.4:
@@ -116,7 +117,7 @@ def test_many_clients(server):
     server.has(read_bytes_total=sum(client.sent for client in clients), written_bytes_total=sum(client.received for client in clients))
 
 
-def test_other_requests(server):
+def test_other_requests(server: Metered) -> None:
     """What is asked of another path, by another method, in pieces, too long, wrongly or not at all."""
     assert server.ask(path="/")[0] == 404, "another path"
     assert server.ask(method="POST")[0] == 405, "another method"
@@ -137,7 +138,7 @@ def test_other_requests(server):
     assert server.connect().ask("begin") == ("tid", 1), "another client"
 
 
-def test_ends_by_itself(tabd, serve):
+def test_ends_by_itself(tabd: str, serve: Callable[..., Server]) -> None:
     """Without `--forever` the page ends with the last connection; one whose port is taken doesn't start."""
     server = serve("--connections", "1", "--metrics", "0")
     pages = server.line().rsplit(":", 1)[1].strip()

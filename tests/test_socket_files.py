@@ -9,6 +9,7 @@ import socket
 import stat
 import subprocess
 import tempfile
+from typing import Any, Iterator, Tuple
 
 import pytest
 
@@ -25,34 +26,34 @@ PATIENCE = 10
 class Place:
     """The program, with a folder for a socket file."""
 
-    def __init__(self, program, folder):
+    def __init__(self, program: str, folder: str) -> None:
         self.program, self.folder, self.path = program, folder, os.path.join(folder, "socket")
 
-    def server(self, *more, path=None, connections=2, **options):
-        """A server that has printed its address."""
+    def server(self, *more: Any, path: Any = None, connections: int = 2, **options: Any) -> Any:
+        """A server that says where it listens."""
         server = Server(self.program, "--connections", str(connections), *more, path=path or self.path, **options)
         assert server.place == (path or self.path), "the address"
         return server
 
-    def refused(self, told, *more, path=None, **options):
+    def refused(self, told: Any, *more: Any, path: Any = None, **options: Any) -> None:
         """A start fails, and says no more than this on standard error."""
         words = [self.program, "serve", "--socket", path or self.path, "--connections", "2", *more]
         done = subprocess.run(words, stdin=subprocess.DEVNULL, capture_output=True, text=True, timeout=PATIENCE, check=False, **options)
         assert (done.returncode, done.stdout, done.stderr) == (1, "", told), "a start that fails"
 
-    def file(self):
+    def file(self) -> Tuple[Any, ...]:
         found = os.lstat(self.path)
         return found.st_ino, stat.S_IFMT(found.st_mode), stat.S_IMODE(found.st_mode)
 
 
 @pytest.fixture
-def place(tabd):
+def place(tabd: str) -> Iterator[Any]:
     """In a short path, since that of a socket file is."""
     with tempfile.TemporaryDirectory() as folder:
         yield Place(tabd, folder)
 
 
-def is_served(path):
+def is_served(path: str) -> None:
     """A transaction that comes to a file is answered."""
     connection = Connection(path)
     script((connection, "begin", ("tid", 1)), (connection, ("abort", "no"), ("aborted", "no")))
@@ -60,13 +61,13 @@ def is_served(path):
 
 
 @pytest.mark.parametrize("umask, wanted", [(0o177, 0o600), (0o117, 0o660)], ids=["for one user", "for a group"])
-def test_mode(place, umask, wanted):
-    """The umask sets the file's permissions."""
+def test_mode(place: Any, umask: int, wanted: Any) -> None:
+    """The umask says who may connect."""
     with place.server(umask=umask):
         assert place.file()[1:] == (stat.S_IFSOCK, wanted)
 
 
-def test_requests_and_events(place):
+def test_requests_and_events(place: Any) -> None:
     """Requests and events, and the end of a server whose connections are closed: the file is gone."""
     with place.server() as server:
         first, second = Connection(place.path), Connection(place.path)
@@ -80,7 +81,7 @@ def test_requests_and_events(place):
         assert os.listdir(place.folder) == [], "the folder"
 
 
-def test_with_counters(place):
+def test_with_counters(place: Any) -> None:
     """The port of the counters stays on loopback."""
     with place.server("--metrics", "0") as server:
         port = int(server.line().removeprefix("metrics on 127.0.0.1:"))
@@ -88,7 +89,7 @@ def test_with_counters(place):
         is_served(place.path)
 
 
-def test_file_of_a_killed_server(place):
+def test_left_by_a_kill(place: Any) -> None:
     """A file at which no one listens any more is taken over."""
     with place.server():
         pass
@@ -104,7 +105,7 @@ def test_file_of_a_killed_server(place):
         is_served(place.path)
 
 
-def test_in_use(place):
+def test_in_use(place: Any) -> None:
     """A file at which a server listens stays, and so does that server."""
     # A start that is refused has connected, to see whether a server listens, and that server may not have seen it go yet.
     with place.server("--forever", connections=3):
@@ -115,28 +116,28 @@ def test_in_use(place):
         is_served(place.path)
 
 
-def make_file(place):
+def make_file(place: Any) -> None:
     with open(place.path, "w", encoding="ascii") as file:
         file.write("kept")
 
 
-def look_at_file(place):
+def look_at_file(place: Any) -> None:
     with open(place.path, encoding="ascii") as file:
         assert file.read() == "kept", "the file"
 
 
-def make_link(place):
+def make_link(place: Any) -> None:
     """To a socket file at which no one listens."""
     with socket.socket(socket.AF_UNIX) as left:
         left.bind(place.path + ".left")
     os.symlink(place.path + ".left", place.path)
 
 
-def look_at_link(place):
+def look_at_link(place: Any) -> None:
     assert (os.readlink(place.path), os.path.exists(place.path)) == (place.path + ".left", True), "the link"
 
 
-def look_at_folder(place):
+def look_at_folder(place: Any) -> None:
     assert os.listdir(place.path) == [], "the folder"
 
 
@@ -145,14 +146,14 @@ def look_at_folder(place):
     [(make_file, look_at_file), (lambda place: os.mkdir(place.path), look_at_folder), (make_link, look_at_link)],
     ids=["a file", "a folder", "a link"],
 )
-def test_no_socket(place, make, look):
+def test_no_socket(place: Any, make: Any, look: Any) -> None:
     """What is no socket file stays as it is."""
     make(place)
     place.refused(IN_USE, "--log")
     look(place)
 
 
-def test_no_accept(place):
+def test_no_accept(place: Any) -> None:
     """A server that ends since it can't accept removes its file too."""
     with place.server(connections=4) as server:
         first = Connection(place.path)
@@ -166,8 +167,8 @@ def test_no_accept(place):
         assert os.listdir(place.folder) == [], "the folder"
 
 
-def test_exchanged(place):
-    """The server does not remove a file that has replaced its own."""
+def test_exchanged(place: Any) -> None:
+    """A file that has taken the place of the server's own is not its to remove."""
     with place.server() as server:
         connections = [Connection(place.path) for _ in range(2)]
         with socket.socket(socket.AF_UNIX) as other:
@@ -180,7 +181,7 @@ def test_exchanged(place):
             assert place.file() == before, "the file"
 
 
-def test_removed(place):
+def test_removed(place: Any) -> None:
     """Nor does it mind that the file is gone."""
     with place.server() as server:
         connections = [Connection(place.path) for _ in range(2)]
@@ -190,21 +191,21 @@ def test_removed(place):
         server.ends()
 
 
-def test_no_page(place):
-    """A start that fails after it has created the file removes it."""
+def test_no_page(place: Any) -> None:
+    """A start that fails behind the file's making removes it."""
     with socket.create_server(("127.0.0.1", 0)) as taken:
         place.refused(IN_USE, "--log", "--metrics", str(taken.getsockname()[1]))
         assert os.listdir(place.folder) == [], "the folder"
 
 
-def test_a_closed_stream(place):
+def test_a_closed_stream(place: Any) -> None:
     """A standard stream is closed, whose number the socket would get."""
     for file, told in [(0, DEVICE + "tabd: a standard stream is closed\n"), (1, DEVICE + "tabd: a standard stream is closed\n"), (2, "")]:
         place.refused(told, "--log", preexec_fn=lambda file=file: os.close(file))
         assert os.listdir(place.folder) == [], "the folder"
 
 
-def test_a_long_path(place):
+def test_a_long_path(place: Any) -> None:
     """A path has 107 bytes at most."""
     most = os.path.join(place.folder, "x" * (106 - len(place.folder)))
     assert len(most) == 107, "its length"
@@ -215,12 +216,12 @@ def test_a_long_path(place):
     assert os.listdir(place.folder) == [], "the folder"
 
 
-def test_no_folder(place):
+def test_no_folder(place: Any) -> None:
     """The folder has to be there."""
     place.refused(DEVICE + "tabd: No such file or directory (os error 2)\n", "--log", path=os.path.join(place.folder, "none", "socket"))
 
 
-def test_a_relative_path(place):
+def test_a_relative_path(place: Any) -> None:
     """A path from the folder in which the server was started."""
     with place.server(path="socket", cwd=place.folder):
         is_served(place.path)

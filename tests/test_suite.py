@@ -12,8 +12,9 @@ class Config:
     """So much of a pytest.Config as the hook looks at."""
 
     def __init__(self, **options: Any) -> None:
-        defaults = {"keyword": "", "markexpr": "", "lf": False, "collectonly": False, "numprocesses": None, "usepdb": False, "capture": "fd", "dist": "no"}
-        self.args, self.option = ["tests"], argparse.Namespace(**{**defaults, **options})
+        chosen = {"keyword": "", "markexpr": "", "lf": False, "collectonly": False}
+        how = {"numprocesses": None, "usepdb": False, "capture": "fd", "dist": "no"}
+        self.args, self.option = ["tests"], argparse.Namespace(**{**chosen, **how, **options})
 
 
 @pytest.mark.parametrize(

@@ -33,22 +33,23 @@ class Differs(Exception):
 class Attempt:
     """A transaction's steps since its begin or its last restart: each a move, its reply, when it was sent and when answered."""
 
-    def __init__(self, age, sent, got):
-        self.age, self.began, self.steps = age, (sent, got), []
-        # How it ended, the times of that request and its reply; the operation that died or was never answered.
+    def __init__(self, age: Any, sent: Any, got: Any) -> None:
+        self.age, self.began = age, (sent, got)
+        self.steps: List[Any] = []
+        # How it ended, when that was asked for and when it was told; the operation that died or was never answered.
         self.end, self.sent, self.got, self.last = None, math.inf, math.inf, None
         self.number = None
         # Operations whose wait an abort has ended, and when they were asked.
-        self.given_up = []
+        self.given_up: List[Any] = []
 
-    def ended(self, end, sent, got, number=None, last=None):
+    def ended(self, end: Any, sent: Any, got: Any, number: Any = None, last: Any = None) -> None:
         self.end, self.sent, self.got, self.number, self.last = end, sent, got, number, last
 
-    def may_commit(self):
+    def may_commit(self) -> bool:
         return self.end in ("commit", "maybe")
 
-    def alone(self, tables):
-        """Its updates if its replies, run serially, are those of the log; else the first move with another reply."""
+    def alone(self, tables: Any) -> Tuple[Any, ...]:
+        """Its updates where it is told what it was told; else the first move that is told something else."""
         alone = Alone(tables)
         for move, reply, *_ in self.steps:
             told = alone.tell(move)
@@ -57,14 +58,14 @@ class Attempt:
                 return None, f"the reply to {move} was {reply}, serially it is {wanted}"
         return alone.updates, None
 
-    def locks(self):
-        """The locks that it surely had, with their times."""
+    def locks(self) -> Iterator[Any]:
+        """What it surely held, from when to when."""
         for move, _, _, got in self.steps:
             if is_operation(move) and got < self.sent:
                 yield lock_of(move), got, self.sent
 
-    def asked(self):
-        """The locks that it requested, with the times in which it may have had them or waited for them."""
+    def asked(self) -> Iterator[Any]:
+        """What it asked for, and in which time it may have held it or waited for it."""
         until = self.got
         for move, _, sent, _ in self.steps + ([self.last] if self.last else []):
             if is_operation(move):
@@ -76,20 +77,20 @@ class Attempt:
 class OneShot:
     """A transaction in one request. If it writes, its last write has a value that no other has."""
 
-    def __init__(self, parts, tag, sent):
+    def __init__(self, parts: Any, tag: Any, sent: Any) -> None:
         self.parts, self.tag, self.sent, self.got, self.reply, self.age, self.number = parts, tag, sent, math.inf, None, None, None
 
-    def may_commit(self):
+    def may_commit(self) -> bool:
         return self.reply is None or self.reply[0] == "atomic"
 
-    def alone(self, tables):
+    def alone(self, tables: Any) -> Tuple[Any, ...]:
         alone = Alone(tables)
         told = alone.one_shot(self.parts)
         if self.reply is not None and self.reply != told:
             return None, f"the reply to the one-shot {self.parts} was {self.reply}, serially it is {told}"
         return alone.updates, None
 
-    def asked(self):
+    def asked(self) -> Iterator[Any]:
         for part in flat(self.parts):
             if is_operation(part):
                 yield lock_of(part), self.sent, self.got
@@ -99,28 +100,30 @@ class Log:
     """The log of a subscriber, by its name: the received terms with their times, and the begins and ends of its subscriptions with theirs,
     as they were granted. Whether it records the order of all commits, and whether it vanished."""
 
-    def __init__(self, name, records):
-        self.name, self.records, self.vanished, self.frames, self.marks = name, records, False, [], []
+    def __init__(self, name: str, records: Any) -> None:
+        self.name, self.records, self.vanished = name, records, False
+        self.frames: List[Any] = []
+        self.marks: List[Any] = []
 
-    def fields(self):
+    def fields(self) -> Dict[Any, Any]:
         return {name: getattr(self, name) for name in ("name", "records", "vanished", "frames", "marks")}
 
 
 class Run:
     """The logs of all clients, and the number and the age of the last commit, which reads all and writes to all tables."""
 
-    def __init__(self, attempts, shots, logs, closing, outbox):
+    def __init__(self, attempts: List[Any], shots: Any, logs: Any, closing: Any, outbox: int) -> None:
         self.attempts, self.shots, self.logs, self.closing, self.outbox = attempts, shots, logs, closing, outbox
 
-    def save(self, path):
-        """A record: a line for each transaction and subscriber, as a Python literal, with the names LONG and inf."""
+    def save(self, path: str) -> None:
+        """A record: a line for each transaction and subscriber, as a Python literal, in which LONG and inf stand for themselves."""
         rows = [("run", {"closing": self.closing, "outbox": self.outbox})]
         rows += [(type(it).__name__, vars(it)) for it in [*self.attempts, *self.shots]] + [("Log", log.fields()) for log in self.logs]
         with open(path, "w", encoding="utf-8") as file:
             file.writelines(shown(repr(row)) + "\n" for row in rows)
 
     @staticmethod
-    def load(path):
+    def load(path: str) -> Any:
         made: Dict[str, List[Any]] = {"run": [], "Attempt": [], "OneShot": [], "Log": []}
         with open(path, encoding="utf-8") as file:
             for kind, fields in map(value_of, file):
@@ -132,32 +135,32 @@ class Run:
         return Run(made["Attempt"], made["OneShot"], made["Log"], run.closing, run.outbox)
 
 
-def shown(text):
+def shown(text: str) -> Any:
     return text.replace(repr(LONG), "LONG")
 
 
-def value_of(line):
+def value_of(line: str) -> Any:
     """The value of a record's line."""
     tree = ast.parse(line.strip(), mode="eval")
     names = {"LONG": ast.Constant(LONG), "inf": ast.Constant(math.inf)}
 
     class Named(ast.NodeTransformer):
-        def visit_Name(self, node):
+        def visit_Name(self, node: Any) -> Any:
             return names[node.id]
 
     return ast.literal_eval(Named().visit(tree).body)
 
 
-def flat(parts):
+def flat(parts: Any) -> Iterator[Any]:
     for part in parts:
         yield from flat(part[1]) if part[0] == "transaction" else [part]
 
 
-def is_operation(move):
+def is_operation(move: Any) -> bool:
     return move not in ("begin", "commit") and move[0] != "abort"
 
 
-def against_time(spans):
+def against_time(spans: Any) -> Any:
     """The first of these that was answered before an earlier one was asked for. Each is a name, and both times."""
     latest, whose = -math.inf, None
     for name, sent, got in spans:
@@ -171,7 +174,7 @@ def against_time(spans):
 class Commit:
     """One that changed something: whose it is, its number or the least and the greatest that it can have, its events."""
 
-    def __init__(self, who, age, told):
+    def __init__(self, who: Any, age: Any, told: Any) -> None:
         self.who, self.age, self.told = who, age, told
         self.least = self.most = who.number
 
@@ -179,7 +182,7 @@ class Commit:
 class Times:
     """Which commits were surely made before a moment, and which may have been: their positions in the order."""
 
-    def __init__(self, commits):
+    def __init__(self, commits: Any) -> None:
         places = list(enumerate(commits, 1))
         over = sorted((one.who.got, place) for place, one in places)
         asked = sorted(((one.who.sent, place) for place, one in places), reverse=True)
@@ -187,15 +190,15 @@ class Times:
         self.greatest = list(itertools.accumulate((place for _, place in over), max, initial=0))
         self.least = list(itertools.accumulate((place for _, place in asked), min, initial=len(commits) + 1))
 
-    def between(self, sent, got):
-        """The positions whose tables a request of these times may have seen."""
+    def between(self, sent: Any, got: Any) -> Tuple[Any, ...]:
+        """The places whose tables something may have seen that was asked for and answered then."""
         first = self.greatest[bisect.bisect_left(self.over, sent)]
         return first, self.least[bisect.bisect_left(self.asked, -got)] - 1
 
 
-def stretches(frames):
-    """Of each commit that a recorder received without a gap before it, the age of the one before, and its age and events. None is
-    before the first; it watches both tables again from their second marker on."""
+def stretches(frames: Any) -> Iterator[Any]:
+    """Of each commit that a recorder was told without a gap before it, the age of the one before, and its age and events. The first
+    is behind None; it watches both tables again from their second marker on."""
     age, marks = None, 0
     for kind, group in itertools.groupby((term for term, _ in frames), lambda term: term[0] == "mnesia_table_event" and term[1][-1][1]):
         told = list(group)
@@ -213,12 +216,12 @@ def stretches(frames):
 class Judge:
     """Of a run that ended with a commit, the last that changed something."""
 
-    def __init__(self, run):
+    def __init__(self, run: Any) -> None:
         self.attempts, self.shots, self.watchers = run.attempts, run.shots, run.logs
         (self.closing, self.last), self.outbox = run.closing, run.outbox
 
-    def faults(self):
-        """All faults; those of the order first, on which the other checks depend."""
+    def faults(self) -> List[Any]:
+        """All that are found; the order first, on which the rest stands."""
         try:
             self.commits = self.order(self.recorded())
             self.run()
@@ -234,8 +237,8 @@ class Judge:
                 found.append(f"{watcher.name}: {differs}")
         return [fault for fault in found if fault]
 
-    def recorded(self):
-        """The events of all commits in their order, each commit's together: an age, and their terms. If one recorder missed some,
+    def recorded(self) -> Any:
+        """The events of all commits in their order, each commit's together: an age, and their terms. Where one recorder missed some,
         another goes on."""
         after: Dict[Any, Any] = {}
         for watcher in self.watchers:
@@ -250,7 +253,7 @@ class Judge:
             raise Undecided
         return groups
 
-    def order(self, groups):
+    def order(self, groups: Any) -> Any:
         """The commits in the order of their events."""
         by_age = {it.age: it for it in self.attempts if it.may_commit()}
         by_tag = {it.tag: it for it in self.shots if it.tag is not None and it.may_commit()}
@@ -269,7 +272,7 @@ class Judge:
         return commits
 
     @staticmethod
-    def writes(who):
+    def writes(who: Any) -> bool:
         """Whether something of it survives, which is the same on all tables for those replies."""
         if isinstance(who, OneShot):
             return True
@@ -286,7 +289,7 @@ class Judge:
                 depths[-1].append(move)
         return bool(depths[0])
 
-    def run(self):
+    def run(self) -> None:
         """Each alone, on the tables of those before it."""
         self.worlds = [EMPTY]
         self.batches: List[List[Tuple[str, Dict[str, Any]]]] = [[]]
@@ -302,8 +305,8 @@ class Judge:
             self.batches.append(told)
         self.touched = {tab: [at for at, told in enumerate(self.batches) if any(it[0] == tab for it in told)] for tab in EMPTY}
 
-    def number(self):
-        """The commits' numbers: each once, and enough other ones for the commits whose replies have none."""
+    def number(self) -> None:
+        """The commits' numbers: each once, and enough of them left for those who are told none."""
         known = [it.number for it in self.attempts if it.end == "commit"]
         if len(set(known)) != len(known) or max(known) != self.closing:
             raise Differs("numbers of commits come twice, or are over the last one's")
@@ -318,8 +321,8 @@ class Judge:
             raise Differs("the commits' numbers are in another order than their events")
         self.share(free)
 
-    def share(self, free):
-        """The unused numbers between two commits, for those between them whose replies have none."""
+    def share(self, free: Any) -> None:
+        """The numbers that are left between two commits, for those between them that are told none."""
         before, pending = 0, []
         for commit in [*self.commits, None]:
             number = commit.who.number if commit else self.closing + 1
@@ -333,7 +336,7 @@ class Judge:
                 one.least, one.most = left[at], left[len(left) - len(pending) + at]
             before, pending = number, []
 
-    def in_time(self):
+    def in_time(self) -> Any:
         """Commits, numbers and ages go with the time."""
         ages = sorted((it.age, *it.began) for it in self.attempts if it.began[1] is not None)
         firsts = [next(group) for _, group in itertools.groupby(ages, lambda it: it[0])]
@@ -342,8 +345,8 @@ class Judge:
         named = lambda what, spans: [(f"{what} {number}", sent, got) for number, sent, got in spans]
         return against_time(commits) or against_time(named("commit", numbers)) or against_time(named("the begin of age", firsts))
 
-    def seen_at(self, who):
-        """The positions in the order that the replies of a transaction that changed nothing may have."""
+    def seen_at(self, who: Any) -> Any:
+        """Where in the order all that was told to somebody who changed nothing may have stood."""
         if isinstance(who, OneShot):
             return self.times.between(who.sent, who.got)
         if who.number is None:
@@ -353,15 +356,15 @@ class Judge:
         under, over = sum(it.most < who.number for it in near), sum(it.least < who.number for it in near)
         return max(first, before + under), min(last, before + over)
 
-    def near(self, number):
-        """The commits whose replies have no number, between the last with a lesser number and the first with a greater one; and how many are
+    def near(self, number: int) -> Tuple[Any, ...]:
+        """The commits that are told no number, between the last that is told one below this and the first above; and how many are
         before them."""
         at = bisect.bisect(self.told, (number, 0))
         before = self.told[at - 1][1] + 1 if at else 0
         return before, self.commits[before : self.told[at][1] if at < len(self.told) else len(self.commits)]
 
-    def readers(self):
-        """Checks transactions that changed nothing: their replies are those of the tables at their time."""
+    def readers(self) -> Iterator[Any]:
+        """Those who changed nothing: what they were told stood in the tables at their time."""
         wrote = {id(commit.who) for commit in self.commits}
         told = [it for it in self.attempts if it.steps] + [it for it in self.shots if it.reply and it.reply != ("aborted", "nomore")]
         for who in told:
@@ -373,7 +376,7 @@ class Judge:
                 what = f"age {who.age}, {who.end}" if isinstance(who, Attempt) else "a one-shot"
                 yield f"{what}, at {first} to {last} of the order: {faults[-1] if faults else 'no such place'}"
 
-    def locks(self):
+    def locks(self) -> Any:
         """Two who surely held conflicting locks at once; and whether any are open at once."""
         spans = sorted((start, end, Owner(it), lock) for it in self.attempts for lock, start, end in it.locks())
         held: List[Any] = []
@@ -387,8 +390,8 @@ class Judge:
             held.append((start, end, owner, lock))
         return None if most > 2 or len(self.commits) < FEW else "transactions are open one after another"
 
-    def restarts(self):
-        """Checks that each restarted transaction met an older one that had a lock or waited for it."""
+    def restarts(self) -> Iterator[Any]:
+        """Who was restarted met an older one, who held a lock or waited for it."""
         asked = sorted((sent, until, Owner(it), lock) for it in [*self.attempts, *self.shots] for lock, sent, until in it.asked())
         # A client that vanished may have requested it until the end.
         gone, asked = [it for it in asked if it[1] == math.inf], [it for it in asked if it[1] < math.inf]
@@ -406,23 +409,25 @@ class Judge:
 class Owner:
     """Comes after equal times in a sorted list."""
 
-    def __init__(self, it):
+    def __init__(self, it: Any) -> None:
         self.it, self.age = it, it.age
 
-    def __lt__(self, other):
+    def __lt__(self, other: Any) -> bool:
         return id(self) < id(other)
 
 
 class Follower:
     """Follows a subscriber's log, and the positions in the order of the commits that it may be at."""
 
-    def __init__(self, judge, watcher):
+    def __init__(self, judge: Any, watcher: Any) -> None:
         self.judge, self.watcher = judge, watcher
-        self.level, self.copies, self.at = {}, {}, [0]
+        self.level: Dict[str, str] = {}
+        self.copies: Dict[str, Any] = {}
+        self.at = [0]
         # Of each item when its first frame came.
-        self.items = []
+        self.items: List[float] = []
 
-    def next(self, place):
+    def next(self, place: Any) -> Any:
         """The next commit with an event for it."""
         nexts = [len(self.judge.batches)]
         for tab in self.level:
@@ -430,12 +435,12 @@ class Follower:
             nexts += touched[bisect.bisect(touched, place) :][:1]
         return min(nexts)
 
-    def owed(self, place):
+    def owed(self, place: Any) -> List[Any]:
         if place >= len(self.judge.batches):
             return []
         return [terms[self.level[tab]] for tab, terms in self.judge.batches[place] if tab in self.level]
 
-    def follow(self):
+    def follow(self) -> None:
         frames: List[Any] = self.watcher.frames
         marks: Iterator[Any] = iter(self.watcher.marks)
         place = 0
@@ -452,8 +457,8 @@ class Follower:
         if not self.watcher.vanished and (self.level or list(marks)):
             raise Differs(f"it never received the end of {list(self.level)}")
 
-    def batch(self, frames, got):
-        """The events of one commit, which have to be together."""
+    def batch(self, frames: Any, got: Any) -> Any:
+        """The events of one commit, which stand together."""
         for place in {self.next(place) for place in self.at}:
             owed = self.owed(place)
             # A client that vanished may have received some of them.
@@ -466,8 +471,8 @@ class Follower:
                 return count
         raise Differs(f"received {frames[0]}, and the next is of {[self.owed(self.next(place))[:1] for place in self.at[:2]]}")
 
-    def mirror(self, event):
-        """A copy depends only on the event."""
+    def mirror(self, event: Any) -> None:
+        """A copy goes by the event alone."""
         what = event[1] if len(event) == 3 else event[2]
         if (rows := self.copies.get(what[0])) is None:
             return
@@ -482,7 +487,7 @@ class Follower:
         if not new:
             del rows[spell(what[1])]
 
-    def mark(self, term, got, asked):
+    def mark(self, term: Any, got: Any, asked: Any) -> None:
         request, sent, answered = asked or (None, 0, 0)
         first, last = self.judge.times.between(sent, answered)
         limits = [(place, self.next(place)) for place in self.at]
@@ -498,7 +503,7 @@ class Follower:
             raise Differs(f"received {term}, asked {request}, at none of {first} to {last} of the order")
         self.at = at
 
-    def begin(self, term, request, at):
+    def begin(self, term: Any, request: Any, at: List[int]) -> Any:
         _, (_, tab, level), *dump = request
         if term[1:3] != (tab, level) or len(term) != 3 + len(dump):
             return []
@@ -508,7 +513,7 @@ class Follower:
         self.level[tab] = level
         return at
 
-    def end(self, term, request, at):
+    def end(self, term: Any, request: Any, at: List[int]) -> Any:
         tab, level = request[1][1:]
         if term != ("mnesia_table_end", tab, "unsubscribed") or self.level.pop(tab, None) != level:
             return []
@@ -517,8 +522,8 @@ class Follower:
             raise Differs(f"its copy of {tab} is not the table")
         return at
 
-    def overflow(self, number):
-        """Its outbox was full when the commit came."""
+    def overflow(self, number: int) -> None:
+        """Its outbox held as much as it can when the commit came."""
         for place in {self.next(place) for place in self.at} - {len(self.judge.batches)}:
             commit, held = self.judge.commits[place - 1], self.items[-self.judge.outbox :]
             if commit.least <= number <= commit.most:
