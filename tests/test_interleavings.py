@@ -6,9 +6,10 @@ A library in front of the program's calls of futexes and sockets (delaying.c) de
 
 import os
 import random
+import select
 import threading
 import time
-from typing import Any, Callable, Dict, Iterator, List
+from typing import Any, Callable, Dict, Iterator, List, Tuple
 
 import pytest
 
@@ -17,16 +18,17 @@ from tests.lib.judging import Undecided
 from tests.lib.refusing import built
 from tests.lib.rounds import Rounds
 from tests.lib.servers import Server
-from tests.lib.wire import Connection
+from tests.lib.wire import PATIENCE, Connection, Term
 
 pytestmark = pytest.mark.usefixtures("plain")
 
-# Who waits sleeps for so many seconds if it is not woken. It is not late if a thread of the test, on the same processors, was.
-SLEEP, LATE = 1.0, 0.2
+# Who waits sleeps for a second if it is not woken. Then nothing comes for so many seconds, while a thread of the test, on the same processors, was
+# never late by so many.
+SILENCE, LATE = 0.5, 0.2
 # So many waits at once, each for a lock of its own, in so many turns; their ends are watched by so many sessions. A session that waits asks for
 # its lock once more after twenty milliseconds, and the locks are free at about that time.
-WAITS, TURNS, WATCHERS, FREE = 8, 15, 2, (0.015, 0.025)
-ROUND = 0.8
+WAITS, TURNS, WATCHERS, FREE = 8, 12, 2, (0.015, 0.025)
+ROUND = 0.6
 
 
 def pytest_generate_tests(metafunc: pytest.Metafunc) -> None:
@@ -91,15 +93,25 @@ def opened(connections: List[Connection]) -> None:
         assert connection.ask("begin")[0] == "tid"
 
 
-def all_commit(connections: List[Connection]) -> None:
+def replies(connections: List[Connection]) -> Tuple[List[Term], float]:
+    """One to each, and the longest time in which none came."""
+    found: Dict[Connection, Term] = {}
+    silence, last = 0.0, time.monotonic()
+    while len(found) < len(connections):
+        ready, _, _ = select.select([it.socket for it in connections if it not in found], [], [], PATIENCE)
+        assert ready, "no reply"
+        silence, last = max(silence, time.monotonic() - last), time.monotonic()
+        found.update((it, it.reply()) for it in connections if it.socket in ready)
+    return [found[it] for it in connections], silence
+
+
+def commit(connections: List[Connection]) -> None:
     for connection in connections:
         connection.send("commit")
-    for connection in connections:
-        assert connection.reply()[0] == "atomic"
 
 
 def turn(older: List[Connection], younger: List[Connection], value: int, chance: random.Random) -> float:
-    """Each of the older waits for one of the younger, which all commit at once; how long after that the last has its lock."""
+    """Each of the older waits for one of the younger, which all commit at once; the longest silence before the last has its lock."""
     opened(older)
     opened(younger)
     for key, connection in enumerate(younger):
@@ -107,13 +119,13 @@ def turn(older: List[Connection], younger: List[Connection], value: int, chance:
     for key, connection in enumerate(older):
         connection.send(("wread", ("t", key)))
     time.sleep(chance.uniform(*FREE))
-    began = time.monotonic()
-    all_commit(chance.sample(younger, len(younger)))
-    for key, connection in enumerate(older):
-        same("a read", connection.reply(), [("t", key, value)])
-    took = time.monotonic() - began
-    all_commit(older)
-    return took
+    commit(chance.sample(younger, len(younger)))
+    found, silence = replies([*younger, *older])
+    assert all(reply[0] == "atomic" for reply in found[: len(younger)]), found
+    same("the reads", found[len(younger) :], [[("t", key, value)] for key in range(len(older))])
+    commit(older)
+    assert all(reply[0] == "atomic" for reply in replies(older)[0])
+    return silence
 
 
 @pytest.mark.serial
@@ -129,12 +141,12 @@ def test_who_waits_is_woken(serve: Callable[..., Server], library: str, delayed:
     chance, late = random.Random(seed), []
     for value in range(TURNS):
         pulse.taken()
-        took = turn(connections[:WAITS], connections[WAITS:], value, chance)
-        if took >= SLEEP and pulse.taken() < LATE:
-            late.append((value, round(took, 3)))
+        silence = turn(connections[:WAITS], connections[WAITS:], value, chance)
+        if silence >= SILENCE and pulse.taken() < LATE:
+            late.append((value, round(silence, 3)))
         for watcher in watchers:
             assert all(watcher.event() for _ in range(WAITS))
-    assert not late, f"seed {seed}: turns in which a session slept until it looked by itself, and seconds"
+    assert not late, f"seed {seed}: turns in which a session slept until it looked by itself, and the seconds of silence"
 
 
 def test_a_round(serve: Callable[..., Server], tmp_path: Any, delayed: Dict[str, Any], seed: int) -> None:
