@@ -7,6 +7,7 @@ bounds of time. Other work on the machine changes them, so a case that fails is 
 
 import os
 import random
+import resource
 import select
 import statistics
 import subprocess
@@ -34,7 +35,7 @@ SECONDS = 2.0
 # So many connections raise one record for so many milliseconds, and most of their commits come after another connection's. If the machine
 # takes the others' processors away only one goes on, so the case has so many tries, with so many seconds between.
 TAKERS, TURNS, MOST_AGAIN = 8, 500, 0.5
-TRIES, PAUSE = 15, 2.0
+TRIES, PAUSE, LEFT_TO_OTHERS = 15, 2.0, 0.2
 # A table of so many keys, all of which a one-shot asks for so many times.
 KEYS, ASKED = 30_000, 50
 
@@ -357,13 +358,32 @@ def again_of(server: Server, load: Any) -> Any:
     return again
 
 
+def busy() -> float:
+    """So many seconds of all processors were used since the start, also by their host for others."""
+    with open("/proc/stat", encoding="ascii") as file:
+        user, nice, system, _, _, *others = map(int, file.readline().split()[1:9])
+    return (user + nice + system + sum(others)) / os.sysconf("SC_CLK_TCK")
+
+
+def by_others(server: Server, load: str) -> Tuple[float, float]:
+    """A try's share, and which share of the processors others used meanwhile."""
+    began, used, before = time.monotonic(), resource.getrusage(resource.RUSAGE_CHILDREN), busy()
+    share = again_of(server, load)
+    after = resource.getrusage(resource.RUSAGE_CHILDREN)
+    own = server.used() + after.ru_utime + after.ru_stime - used.ru_utime - used.ru_stime
+    return share, (busy() - before - own) / ((time.monotonic() - began) * (os.cpu_count() or 1))
+
+
 @pytest.mark.tries(1)
-def test_turns_at_one_record(serve: Callable[..., Server], load: Any) -> None:
+def test_turns_at_one_record(serve: Callable[..., Server], load: str) -> None:
     """Sessions that meet at one record take turns: a session whose next transaction comes at once does not have the record again and
-    again, before those who wait for it are awake."""
-    found: List[float] = []
-    while len(found) < TRIES and not any(share <= MOST_AGAIN for share in found):
+    again, before those who wait for it are awake. A try shows it either way only if others leave the processors alone."""
+    found: List[Tuple[float, float]] = []
+    while len(found) < TRIES and not any(share <= MOST_AGAIN for share, _ in found):
         time.sleep(PAUSE if found else 0)
         with serve("--connections", str(TAKERS + 1)) as server:
-            found.append(again_of(server, load))
-    assert min(found) <= MOST_AGAIN, f"shares {found}"
+            found.append(by_others(server, load))
+    told = f"shares of commits, and of the processors for others: {[(round(share, 2), round(others, 2)) for share, others in found]}"
+    if min(found)[0] > MOST_AGAIN and all(others > LEFT_TO_OTHERS for _, others in found):
+        pytest.skip(f"other work has the processors; {told}")
+    assert min(found)[0] <= MOST_AGAIN, told
