@@ -61,7 +61,7 @@ def opened(*connections: Connection) -> None:
 
 
 def resting(holder: Connection, *others: Connection) -> None:
-    """The holder has record 1; each of the others has done something and rests for it."""
+    """The holder has locked record 1; each of the others has done something and backs off for it."""
     opened(holder, *others)
     script((holder, WREAD, [("t", 1, 0)]))
     for number, other in enumerate(others, 2):
@@ -76,7 +76,7 @@ def table_of(connection: Connection) -> None:
 
 
 def received_after(connection: Connection, reply: Any) -> Any:
-    """The reply that is due, and when it came."""
+    """The pending reply, and when it came."""
     found, seconds = timed(connection.receive)
     assert found == ("reply", reply)
     return seconds
@@ -84,7 +84,7 @@ def received_after(connection: Connection, reply: Any) -> Any:
 
 @served(2)
 def test_a_restart_comes(clients: List[Connection]) -> None:
-    """One thread drives both: the restart comes while the other's transaction is open, and the younger goes on behind it."""
+    """One thread drives both: the restart comes while the other's transaction is open, and the younger goes on after it."""
     older, younger = clients
     script((older, CREATE, ATOMIC))
     opened(older, younger)
@@ -111,7 +111,7 @@ def test_two_upgrades(clients: List[Connection]) -> None:
 
 @served(3)
 def test_no_overtaking(clients: List[Connection]) -> None:
-    """Who asks behind a request that is queued and older rests, though the lock that is held would let it pass."""
+    """A request after an older queued one backs off, though it does not conflict with the granted lock."""
     first, second, third = clients
     script((first, CREATE, ATOMIC))
     opened(first, second, third)
@@ -136,7 +136,7 @@ def test_phantom(clients: List[Connection]) -> None:
 @served(2)
 @pytest.mark.parametrize("end", [("abort", "why"), "commit"], ids=["an abort", "a commit"])
 def test_an_end_wakes(clients: List[Connection], end: Any) -> None:
-    """Who rests is told to restart as soon as the holder's transaction ends, and then goes on."""
+    """A session in back-off gets `restart` as soon as the holder's transaction ends, and then goes on."""
     holder, other = clients
     table_of(holder)
     took = []
@@ -151,7 +151,7 @@ def test_an_end_wakes(clients: List[Connection], end: Any) -> None:
 
 @served(2)
 def test_a_commit_grants(clients: List[Connection]) -> None:
-    """Who waits has its lock as soon as the holder's transaction ends."""
+    """A session that waits gets its lock as soon as the holder's transaction ends."""
     older, holder = clients
     table_of(holder)
     took = []
@@ -168,7 +168,7 @@ def test_a_commit_grants(clients: List[Connection]) -> None:
 
 @served(3)
 def test_the_oldest_first(clients: List[Connection]) -> None:
-    """Of two that rest for one record the older goes on first, and the younger not before its end, if it ends soon."""
+    """Of two in back-off for one record the older goes on first, and the younger not before its end, if it ends soon."""
     holder, older, younger = clients
     table_of(holder)
     early = 0
@@ -187,7 +187,7 @@ def test_the_oldest_first(clients: List[Connection]) -> None:
 
 @served(3)
 def test_an_idle_one_is_passed(clients: List[Connection]) -> None:
-    """The older was told to go on and does nothing: the younger goes on all the same, after a nap or two."""
+    """The older got `restart` and does nothing: the younger goes on nevertheless, after one or two sleeps."""
     holder, older, younger = clients
     table_of(holder)
     took = []
@@ -204,7 +204,7 @@ def test_an_idle_one_is_passed(clients: List[Connection]) -> None:
 
 @served(3)
 def test_one_vanishes(clients: List[Connection]) -> None:
-    """Who vanishes while it rests leaves, and what it held is free; the next goes on."""
+    """A client that vanishes during a back-off leaves, and its locks are released; the next one goes on."""
     holder, first, second = clients
     table_of(holder)
     resting(holder, first, second)
@@ -216,7 +216,7 @@ def test_one_vanishes(clients: List[Connection]) -> None:
 
 @served(2)
 def test_opposite_orders(clients: List[Connection]) -> None:
-    """One-shots of forty writes in opposite orders: a one-shot's steps stand together, so none is ever restarted."""
+    """One-shots of forty writes in opposite orders: a one-shot's steps are done together, so none is ever restarted."""
     keys = list(range(40))
 
     def write_all(connection: Connection, order: Any) -> None:
@@ -245,7 +245,7 @@ def test_a_one_shot_is_patient(clients: List[Connection]) -> None:
 
 @served(2)
 def test_long_answers(clients: List[Connection]) -> None:
-    """A one-shot that is told much lets others in between its answers: another's read waits at most a quarter of it."""
+    """A one-shot with a long reply lets other requests in between its members: another's read waits at most a quarter of it."""
     asker, other = clients
     script((asker, CREATE, ATOMIC))
     for first in range(0, KEYS, 1_000):
@@ -345,7 +345,7 @@ def load(tmp_path_factory: pytest.TempPathFactory) -> Any:
 
 
 def again_of(server: Server, load: Any) -> Any:
-    """Which share of the commits at one record came behind one of the same connection."""
+    """The share of the commits at one record that came after one of the same connection."""
     first = server.connect()
     script((first, CREATE, ATOMIC))
     first.close()
@@ -376,8 +376,8 @@ def by_others(server: Server, load: str) -> Tuple[float, float]:
 
 @pytest.mark.tries(1)
 def test_turns_at_one_record(serve: Callable[..., Server], load: str) -> None:
-    """Sessions that meet at one record take turns: a session whose next transaction comes at once does not have the record again and
-    again, before those who wait for it are awake. A try shows it either way only if others leave the processors alone."""
+    """Sessions that contend for one record take turns: a session that begins its next transaction at once does not lock the record again and
+    again, before the sessions that wait for it are awake. A try shows it either way only if others leave the processors free."""
     found: List[Tuple[float, float]] = []
     while len(found) < TRIES and not any(share <= MOST_AGAIN for share, _ in found):
         time.sleep(PAUSE if found else 0)

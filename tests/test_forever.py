@@ -37,8 +37,8 @@ def server(request: pytest.FixtureRequest, tabd: str, tmp_path: Any, place: Any)
 
 @seats(8)
 @at_both
-def test_the_ninth_is_told(server: Server) -> None:
-    """Who finds no seat is told so and closed, and the others go on; who leaves makes room."""
+def test_the_ninth_is_refused(server: Server) -> None:
+    """A connection too many is refused and closed, and the others go on; after one has left another is served."""
     connections = [server.connect() for _ in range(8)]
     for age, connection in enumerate(connections, 1):
         script((connection, "begin", ("tid", age)))
@@ -55,7 +55,7 @@ def test_the_ninth_is_told(server: Server) -> None:
 @seats(2)
 @at_both
 def test_a_pause(server: Server) -> None:
-    """Who alone asks, and has asked often, is waited for with no use of a processor, and keeps its transaction meanwhile."""
+    """The server waits for the only client, which has sent many requests, without using a processor, and keeps its transaction."""
     connection = server.connect()
     script((connection, CREATE, ATOMIC), (connection, "begin", ("tid", 1)))
     for number in range(100):
@@ -69,7 +69,7 @@ def test_a_pause(server: Server) -> None:
 
 
 def at_last(connection: Connection, request: Any) -> Any:
-    """The reply, where whoever broke off may leave later than a restarted request rests."""
+    """The reply, although a session that broke off may leave later than a restarted request backs off."""
     for _ in range(100):
         if (reply := connection.ask(request)) != "restart":
             return reply
@@ -79,7 +79,7 @@ def at_last(connection: Connection, request: Any) -> Any:
 @seats(2)
 @at_both
 def test_tables_outlive_connections(server: Server) -> None:
-    """All have left, one in the midst of a transaction, and what was committed is there for who comes."""
+    """All have left, one during a transaction, and the next client finds what was committed."""
     first, second = server.connect(), server.connect()
     script((first, CREATE, ATOMIC), (first, ("transaction", [write(1, "a")], 0), ("atomic", [OK])))
     script((second, "begin", ("tid", 2)), (second, write(1, "b"), OK))
@@ -93,7 +93,7 @@ def test_tables_outlive_connections(server: Server) -> None:
 
 @seats(8)
 @at_both
-def test_a_thousand_through_a_seat(server: Server, sanitizer: Any) -> None:
+def test_a_thousand_connections(server: Server, sanitizer: Any) -> None:
     """A thousand connections, one after the other, leave no thread, no descriptor and no memory."""
     for connection in (held := [server.connect() for _ in range(7)]):
         assert connection.ask("begin")[0] == "tid", "begin"
@@ -113,8 +113,8 @@ def test_a_thousand_through_a_seat(server: Server, sanitizer: Any) -> None:
 
 @seats(64, files=20)
 @at_both
-def test_no_descriptor_is_left(server: Server) -> None:
-    """Where no connection can be accepted it says so, once and not at each attempt, and goes on as soon as one can."""
+def test_out_of_descriptors(server: Server) -> None:
+    """If no connection can be accepted it prints a line, once and not at each attempt, and goes on as soon as one can."""
     connections = [server.connect() for _ in range(12)]
     time.sleep(2)
     # A descriptor that is free again may be too few for the next, so there may be a line for each connection that ends.
@@ -131,8 +131,8 @@ def test_no_descriptor_is_left(server: Server) -> None:
 @at_both
 @pytest.mark.tries(3)
 def test_idle(server: Server) -> None:
-    """A transaction from which nothing comes ends, with its connection, and what it held is free. Who waits for its lock, and who has
-    no transaction, is not idle, though nothing comes from either."""
+    """An idle transaction ends, with its connection, and its locks are released. A session that waits for its lock, and a session without
+    a transaction, is not idle, though nothing comes from either."""
     older, younger, mirror = server.connect(), server.connect(), server.connect()
     script((older, CREATE, ATOMIC), (mirror, watch(), HERE_OK), (older, "begin", ("tid", 1)))
     script((younger, "begin", ("tid", 2)), (younger, write(1, "b"), OK))
@@ -172,7 +172,7 @@ def test_a_server_that_is_stopped(server: Server) -> None:
 @at_both
 @pytest.mark.tries(3)
 def test_a_reader_that_takes_nothing(server: Server) -> None:
-    """Who reads nothing for so long has left, so that its seat is free."""
+    """A client that reads nothing for so long is disconnected, so that another can be served."""
     reader, writer = server.connect(small=True), server.connect()
     script((reader, CREATE, ATOMIC), (reader, watch(), HERE_OK))
     for number in range(400):
@@ -187,7 +187,7 @@ def test_a_reader_that_takes_nothing(server: Server) -> None:
 @seats(2, "--log", "--outbox", "16")
 @at_both
 def test_a_log(server: Server) -> None:
-    """Each start, end, overflow and refusal of a seat has a line."""
+    """Each start, end and overflow of a session, and each refusal of a connection, has a line."""
     reader = server.connect(small=True)
     assert server.log() == "tabd: session 1 has started\n", "a start"
     writer = server.connect()
@@ -210,8 +210,8 @@ def test_a_log(server: Server) -> None:
 
 @seats(3)
 @at_both
-def test_broken_off_behind_a_wait(server: Server) -> None:
-    """Who breaks off while it waits has left at once, also where a further request stands unread, and what it held is free."""
+def test_broken_off_during_a_wait(server: Server) -> None:
+    """A client that breaks off while it waits leaves at once, also if it has sent a further request, and its locks are released."""
     older, younger, third = server.connect(), server.connect(), server.connect()
     script((older, CREATE, ATOMIC), (older, "begin", ("tid", 1)), (older, write(2, "a"), OK))
     script((younger, "begin", ("tid", 2)), (younger, write(1, "b"), OK))
@@ -228,8 +228,8 @@ def test_broken_off_behind_a_wait(server: Server) -> None:
 
 @seats(2)
 @at_both
-def test_half_closed_behind_a_wait(server: Server) -> None:
-    """Who sends nothing more while it waits, with a further request unread, has not broken off: it is told both replies."""
+def test_half_closed_during_a_wait(server: Server) -> None:
+    """A client that half-closes while it waits, after a further request, has not broken off: it gets both replies."""
     older, younger = server.connect(), server.connect()
     script((older, CREATE, ATOMIC), (older, "begin", ("tid", 1)), (younger, "begin", ("tid", 2)), (younger, write(1, "b"), OK))
     older.send(("read", "t", 1))
@@ -260,7 +260,7 @@ def held(server: Server) -> Tuple[Any, ...]:
 @seats(2, "--abort-waits")
 @at_both
 def test_an_abort_ends_a_wait(server: Server) -> None:
-    """It is answered alone, and ends one level. What it drops is asked for no more; the next operation waits as before."""
+    """Only the abort is answered, and it ends one level. The dropped request is not queued any more; the next operation waits as before."""
     older, younger = held(server)
     script((older, ABORT, ABORTED))
     older.send(("read", "t", 1))
@@ -277,7 +277,7 @@ def test_an_abort_ends_a_wait(server: Server) -> None:
 @seats(2, "--abort-waits")
 @at_both
 def test_an_abort_in_the_same_piece(server: Server) -> None:
-    """Of what came at once the abort behind the operation ends its wait, and what comes behind that is answered."""
+    """In one piece, the abort after the operation ends its wait, and the requests after the abort are answered."""
     older, younger = held(server)
     script((older, ABORT, ABORTED))
     older.send(("read", "t", 2), ("read", "t", 1), ABORT, "begin")
@@ -290,8 +290,8 @@ def test_an_abort_in_the_same_piece(server: Server) -> None:
 
 
 @seats(2, "--abort-waits")
-def test_others_are_answered_behind(server: Server) -> None:
-    """Another request behind a wait is answered behind it, and so is an abort behind that one."""
+def test_others_are_answered_after_a_wait(server: Server) -> None:
+    """Another request after an operation that waits is answered after it, and so is an abort after that request."""
     older, younger = held(server)
     older.send(("read", "t", 2), ABORT)
     waits(older)
@@ -301,8 +301,8 @@ def test_others_are_answered_behind(server: Server) -> None:
 
 
 @seats(2)
-def test_an_abort_is_answered_behind(server: Server) -> None:
-    """Without the word an abort is answered behind what waits."""
+def test_an_abort_is_answered_after_a_wait(server: Server) -> None:
+    """Without the option an abort is answered after the operation that waits."""
     older, younger = held(server)
     older.send(ABORT)
     waits(older)
@@ -313,7 +313,7 @@ def test_an_abort_is_answered_behind(server: Server) -> None:
 
 @seats(3, "--abort-waits")
 def test_an_abort_ends_a_one_shot(server: Server) -> None:
-    """A one-shot that waits, for a younger's lock behind an older's, is given up."""
+    """A one-shot that waits, for a younger transaction's lock after an older one's, is given up."""
     first, one_shot, younger = server.connect(), server.connect(), server.connect()
     script((first, CREATE, ATOMIC), (first, "begin", ("tid", 1)), (first, write(1, "a"), OK))
     one_shot.send(("transaction", [write(1, "b"), write(2, "b")], 1000))
@@ -328,8 +328,8 @@ def test_an_abort_ends_a_one_shot(server: Server) -> None:
 
 @seats(2, "--abort-waits")
 @at_both
-def test_an_abort_beside_a_commit(server: Server) -> None:
-    """An abort comes about when the lock is free: the operation is answered, and the abort behind it, or the abort alone."""
+def test_an_abort_at_a_commit(server: Server) -> None:
+    """An abort comes about when the lock is free: the operation is answered, and the abort after it, or only the abort."""
     chance = random.Random(1)
     older, younger = server.connect(), server.connect()
     script((older, CREATE, ATOMIC))

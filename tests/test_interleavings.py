@@ -1,4 +1,4 @@
-"""`tabd serve` with its threads delayed: who has to be woken is woken, and a run is still one of transactions alone.
+"""`tabd serve` with its threads delayed: a session that waits is woken, and a run is still serializable.
 
 A library in front of the program's calls of futexes and sockets (delaying.c) delays chosen ones by a seed; every other server has one processor.
 `--seeds N` tries so many seeds. No contract speaks of threads: this is what finds a wake-up that is lost between two of them.
@@ -22,7 +22,7 @@ from tests.lib.wire import PATIENCE, Connection, Term
 
 pytestmark = pytest.mark.usefixtures("plain")
 
-# Who waits sleeps for a second if it is not woken. Then nothing comes for so many seconds, while a thread of the test, on the same processors, was
+# A session that waits sleeps for a second if it is not woken. Then no reply comes for so many seconds, while a thread of the test, on the same processors, was
 # never late by so many.
 SILENCE, LATE = 0.5, 0.2
 # So many waits at once, each for a lock of its own, in so many turns; their ends are watched by so many sessions. A session that waits asks for

@@ -89,7 +89,7 @@ def begins(count: int) -> Tuple[Any, ...]:
 
 
 def used_up() -> Tuple[Any, ...]:
-    """The limits of levels and of operations, both reached: a begin is told the first, and once a level is free the other."""
+    """The limits of levels and of operations, both reached: the reply to a begin is the first, and after a level has ended the other."""
     read, levels, operations = ("read", "t", 1), 16, 1000
     limit = {what: (1, ("error", ("system_limit", what))) for what in ("nesting", "operations")}
     children = levels - 1
@@ -102,7 +102,7 @@ def used_up() -> Tuple[Any, ...]:
 
 
 def watched(count: int) -> Tuple[Any, ...]:
-    """64 sessions watch as many commits; all but the last take each batch, and the last is told of its overflow."""
+    """64 sessions watch as many commits; all but the last take each batch, and the last gets its overflow."""
     sessions, last = range(1, 65), 64
     asked: List[Term] = [(session, "join") for session in sessions] + [(1, ("create_table", "t", []))]
     told: List[Term] = [(session, "ok") for session in sessions] + [(1, ("atomic", "ok"))]
@@ -146,8 +146,8 @@ def nested(levels: int) -> Any:
 
 
 def odd_payloads() -> Tuple[Any, ...]:
-    """What is no request is told so: as no command where it is a term, however long, and as no term where it is none, however
-    deep. What follows is served."""
+    """Payloads that are no request are refused: as no command if it is a term, however long, and as no term if it is none, however
+    deep. The requests after them are served."""
     binary = b"\x83m" + (LONGEST - 6).to_bytes(4, "big") + bytes(LONGEST - 6)
     lists, tuples = b"\x83" + b"\x6c" * (LONGEST - 1), b"\x83" + b"h\x01" * ((LONGEST - 1) // 2)
     no_term, no_command = (0, ("error", "badterm")), (0, ("error", "badcommand"))
@@ -179,7 +179,7 @@ def is_told(wanted: Any, found: Any) -> Any:
 
 
 @pytest.mark.parametrize("words, status, out, err", WORDS, ids=[" ".join(map(str, words)) or "none" for words, *_ in WORDS])
-def test_words(tabd: str, words: Any, status: int, out: Any, err: Any) -> None:
+def test_arguments(tabd: str, words: Any, status: int, out: Any, err: Any) -> None:
     found = run(tabd, words, stdin=subprocess.DEVNULL, stdout=subprocess.PIPE)
     assert found[0] == status and is_told(out, found[1]) and is_told(err, found[2]), found
 

@@ -50,7 +50,7 @@ pytestmark = pytest.mark.serial
 
 @pytest.fixture
 def held(tabd: str, request: pytest.FixtureRequest, passed: Callable[[], bool], plain: None) -> Iterator[Any]:
-    """Of the words of the mark `words`. Behind a case that passes it has said nothing."""
+    """A server with the options of the mark `words`. After a case that passes it has printed nothing."""
     mark = request.node.get_closest_marker("words")
     with Held(tabd, *(mark.args if mark else ())) as server:
         yield server
@@ -63,10 +63,10 @@ EVEN = list(map(halved, range(0, 20_000, 2)))
 FULL = pytest.mark.words("--journal", "16")
 # Thirty megabytes.
 LONG, MANY = long_record(100_000), 300
-# A bound in kilobytes, and a table with what a client makes the server hold, made when they are needed: one that copies what it tells
-# holds more than 150,000 in each, one that builds an item before it sends it some 30,000 in each that is on its way, one whose journal copies its
-# rows some 70,000, one whose maps keep room for entries that don't come some 38,000 in "rows of a server", and one whose journal counts
-# entries alone some 225,000 in "operations in the journal".
+# A bound in kilobytes, and a table with a client's requests, made when they are needed. Wrong servers use more: one that copies its replies more
+# than 150,000 in each case, one that builds an item before it sends it some 30,000 in each that is on its way, one whose journal copies its rows some
+# 70,000, one whose maps reserve room for entries that don't come some 38,000 in "rows of a server", and one whose journal limits
+# only entries some 225,000 in "operations in the journal".
 CASES = [
     pytest.param(30_000, lambda: (table(long_record(MEGABYTE), 1), long_reads(1, 200)), id="reads of a long record"),
     pytest.param(30_000, lambda: (table(small_record, 20_000), whole_reads(ALL_KEYS, KEYS, 300)), id="all keys"),
@@ -87,7 +87,7 @@ CASES = [
 
 @pytest.mark.parametrize("bound, case", CASES)
 def test_holds(held: Any, bound: Any, case: Any) -> None:
-    """So many kilobytes at most beside the table."""
+    """At most so many kilobytes in addition to the table."""
     make, hold = case()
     alone, all_of = measured(held, make, hold)
     assert all_of - alone <= bound, "kilobytes"
@@ -111,7 +111,7 @@ def test_the_last_lets_go(held: Any) -> None:
 
 
 def one_round(client: Connection, reader: Connection, mirror: Any, record: Any, outbox_first: Any) -> None:
-    """A record is written, read, dumped, and told as the old record of an event; then the table has it no more."""
+    """A record is written, read, dumped, and sent as the old record of an event; then it is deleted."""
     read = ("read", "t", 1)
     script((client, ("transaction", [("write", record)], 0), ("atomic", [OK])))
     transaction(reader, [read] * 10, size_of([record]))
@@ -149,8 +149,8 @@ def writes_until_refused(client: Connection) -> Any:
 
 
 def test_no_more_memory(held: Any) -> None:
-    """A write that finds no memory is told so. Aborted, its transaction gives back what it held: others are served, and nothing has
-    changed. With more memory it is made."""
+    """A write without memory is refused. The abort of its transaction frees its memory: others are served, and nothing has
+    changed. With more memory the write is done."""
     client, other = held.connect(), held.connect()
     script((client, CREATE, ATOMIC))
     resource.prlimit(held.process.pid, resource.RLIMIT_AS, (held.kilobytes("VmSize") * 1024 + ROOM, resource.RLIM_INFINITY))

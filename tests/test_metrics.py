@@ -17,7 +17,7 @@ PATIENCE = 2
 
 @pytest.fixture
 def server(tabd: str, request: pytest.FixtureRequest, passed: Callable[[], bool]) -> Iterator[Any]:
-    """Of the words of the mark `words`, for four clients. Behind a case that passes it has said nothing."""
+    """A server with the options of the mark `words`, for four clients. After a case that passes it has printed nothing."""
     mark = request.node.get_closest_marker("words")
     with Metered(tabd, 4, *(mark.args if mark else ())) as server:
         yield server
@@ -26,7 +26,7 @@ def server(tabd: str, request: pytest.FixtureRequest, passed: Callable[[], bool]
 
 
 def test_each_is_counted(server: Metered) -> None:
-    """One thing after the other, and each counter beside it."""
+    """One request after another, and the counters after each."""
     first, second, mirror = server.connect(), server.connect(), server.connect()
     script((first, CREATE, ATOMIC), (mirror, watch(), HERE_OK))
     server.has(sessions=3, sessions_started_total=3, tables=1, records=0, commits_total=0, journal_entries=2, items_sent_total=1)
@@ -92,7 +92,7 @@ def test_overflows(server: Metered) -> None:
 
 
 def test_many_clients(server: Metered) -> None:
-    """Four at once, at three records: each counter is the sum of what they were told."""
+    """Four concurrent clients, at three records: each counter is the sum over their replies."""
     clients = [server.connect() for _ in range(4)]
     script((clients[0], CREATE, ATOMIC))
     sums = [dict(commits_total=0, aborts_total=0, given_up_total=0) for _ in clients]

@@ -168,7 +168,7 @@ def test_a_planted_order_is_found(replay: Replay) -> None:
 
 
 def check_steps(replay: Replay, count: int, asked: List[Step], model: Callable[[int], Book] = Book) -> Tuple[Book, List[Term]]:
-    """The replies to steps of so many sessions; the model behind them."""
+    """Checks the replies to steps of so many sessions; returns the model after them, and the replies."""
     replay.fresh(count)
     found = replay.ask(asked)
     book = replay.book(model)
@@ -178,7 +178,7 @@ def check_steps(replay: Replay, count: int, asked: List[Step], model: Callable[[
 
 
 def check_sessions(replay: Replay, count: int, asked: List[Step], model: Callable[[int], Book] = Book) -> None:
-    """Steps behind a begin of each, and the tables behind them once all have left, which one more session asks for."""
+    """Steps after a begin of each, and the tables after all have left, which one more session asks for."""
     looks = ("transaction", [("match_object", (tab, "_", "_", "_")) for tab in OPTIONS], 0)
     begun, left = [(who, "begin") for who in range(count)], [(who, "leave") for who in range(count)]
     check_steps(replay, count + 1, [*begun, *asked, *left, (count, looks)], model)
@@ -196,7 +196,7 @@ def test_sessions_that_meet(replay: Replay, asked: List[Step]) -> None:
 
 @pytest.mark.parametrize("model, most", planted.MEETING.items())
 def test_a_planted_session_is_found(replay: Replay, model: Callable[[int], Book], most: int) -> None:
-    """In so many steps at most behind the begins."""
+    """In so many steps at most after the begins."""
     found = least(MEETING_STEPS, lambda asked: check_sessions(replay, 3, asked, model))
     assert len(found) <= most, found
 

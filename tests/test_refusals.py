@@ -62,7 +62,7 @@ def library(tmp_path_factory: pytest.TempPathFactory) -> Any:
 
 @pytest.fixture(scope="session")
 def replay(tabd: str, library: str) -> Any:
-    """Starts a replay of some words whose nth allocation is refused."""
+    """Starts a replay with some options whose nth allocation is refused."""
     start = lambda words, nth, *more, **wrong: RefusedReplay(tabd, library, words, nth, *more, **wrong)
     with start(["replay"], 1) as run:
         run.ask(frame((1, "join")))
@@ -72,8 +72,8 @@ def replay(tabd: str, library: str) -> Any:
 
 
 def end_of(run: Any, case: Any, is_whole: Any) -> Any:
-    """How a run ended: `whole`, where all frames of the case were answered, or where its growth was refused: at the `start`, for a
-    `frame`; `none` where nothing was refused."""
+    """How a run ended: `whole`, if all frames of the case were answered, or the refused allocation: at the `start`, for a
+    `frame`; `none` if nothing was refused."""
     where, status, err = run.ended()
     if is_whole:
         assert (status, err) == (0, b""), "all is answered"
@@ -107,7 +107,7 @@ def row_end(run: Any, stream: Any) -> Any:
 
 
 def one_shot_end(run: Any, case: Any) -> Any:
-    """How the run of a one-shot ended, of which memory was refused to the one-shot alone."""
+    """How the run of a one-shot ended, if memory was refused only to the one-shot."""
     for given, wanted in zip(case.given[:-1], case.told):
         assert run.ask(given) == wanted, f"before it frame {run.answered}"
     told = run.ask(case.given[-1])
@@ -120,8 +120,8 @@ def one_shot_end(run: Any, case: Any) -> Any:
 
 
 def probe(run: Any, case: Any) -> None:
-    """No level, no lock, no request and no change is left of it; asked again it is told what it is told."""
-    # An age that it used up is not told.
+    """It left no level, no lock, no request and no change; sent again it has its reply."""
+    # No reply has the age that it used up.
     ages = 1 + sum(asked == "begin" or asked[0] == "transaction" for _, asked, _ in case.before)
     begun = run.ask(frame((1, "begin")))
     age = next((age for age in (ages, ages + 1) if begun == frame((1, ("tid", age)))), None)
@@ -133,7 +133,7 @@ def probe(run: Any, case: Any) -> None:
 
 
 def faults_of(replay: Any, does: Any, stream: Any, start: int, **wrong: Any) -> Any:
-    """What differs, for each allocation until none is left; how often the runs ended in each way is printed."""
+    """The faults, for each allocation in turn; prints how often the runs ended in each way."""
     ends: Counter[str] = collections.Counter()
     faults: List[str] = []
     before = count_before(replay, stream)

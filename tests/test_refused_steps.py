@@ -22,7 +22,7 @@ FEWEST = 100
 
 
 def run(tests: Any, library: str, nth: int, report: Any) -> Tuple[Any, ...]:
-    """The test's status, what it said, and whether its nth allocation was refused, which the library tells on the report."""
+    """The test's status, its output, and whether its nth allocation was refused, which the library writes to the report."""
     report.truncate(0)
     env = {"LD_PRELOAD": library, "NTH": str(nth), "REPORT": str(report.fileno())}
     done = subprocess.run(

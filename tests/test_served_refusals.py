@@ -63,7 +63,7 @@ def replied(connection: Connection) -> Any:
 
 
 def soon(what: str, connection: Connection, request: Any, wanted: Any) -> None:
-    """It is told so at last: who leaves takes a moment."""
+    """Waits for this reply: a session needs a moment to leave."""
     end = time.monotonic() + PATIENCE
     while (found := asked(connection, request)) != wanted and time.monotonic() < end:
         time.sleep(0.002)
@@ -76,7 +76,7 @@ def script(*steps: Any) -> None:
 
 
 def free(connection: Connection, table: Any) -> None:
-    """No lock is held or awaited in the table."""
+    """No transaction has or awaits a lock in the table."""
     soon(f"an index of {table}", connection, ("add_table_index", table, "val"), ATOMIC)
     soon(f"no index of {table}", connection, ("del_table_index", table, "val"), ATOMIC)
 
@@ -103,7 +103,7 @@ class Case:
         self.inside, self.waits, self.marks = inside, waits, marks
 
     def told(self, first: Any, second: Any) -> Any:
-        """The reply. The second commits where the first waits for it, which may be refused too."""
+        """The reply. The second commits if the first waits for it; this may be refused too."""
         first.send(self.request)
         if self.waits and not select.select([first.socket], [], [], QUIET)[0]:
             try:
@@ -117,7 +117,7 @@ class Case:
             return "closed"
 
     def again(self, first: Any, second: Any, other: Any) -> None:
-        """It was told `no_memory`, and nothing is left of it. Asked again it is told its reply."""
+        """After `no_memory` nothing is left of it. Sent again it gets its reply."""
         if self.waits:
             # It waits again if the second's transaction is still open, and ends.
             first.send(self.request)
@@ -167,7 +167,7 @@ class Case:
         raise AssertionError(f"replied {told}, wanted {self.reply}")
 
     def counted(self, serve: Callable[..., RefusedServer]) -> None:
-        """How many allocations it takes where none is refused. A thread of a connection that begins late takes some beside them."""
+        """How many allocations it takes if none is refused. A thread of a connection that begins late takes some more."""
         self.all = sys.maxsize
         for _ in range(COUNTS):
             self.run(serve, COUNTED)
@@ -212,7 +212,7 @@ class Watched:
             return end if made >= nth else "none"
 
     def told(self, first: Any, told: Any) -> str:
-        """How the first was told what was committed: where it is closed, a beginning of it."""
+        """How the first received the committed events: if it is closed, a beginning of them."""
         if told == NO_MEMORY:
             return "replied no_memory"
         same("a commit", told, ("atomic", self.number))
@@ -224,7 +224,7 @@ class Watched:
         return "got its reply"
 
     def next_event(self, first: Any, second: Any) -> None:
-        """Nothing stands between what the first was told and the event of what is committed next."""
+        """The next frame of the first is the event of the next commit."""
         script((second, ("transaction", [write("next", 0)], 0), ("atomic", [OK])))
         same("the next event", received(first), event("next", 0, self.number + 1))
 
@@ -346,7 +346,7 @@ CASES: List[Any] = [
 
 @pytest.fixture(scope="session")
 def refused(tabd: str, tmp_path_factory: pytest.TempPathFactory) -> Any:
-    """Starts a server of some words whose allocations can be refused."""
+    """Starts a server with some options whose allocations can be refused."""
     library = built("refusing_server", tmp_path_factory.mktemp("refusing"))
     serve = lambda *words: RefusedServer(tabd, library, *words)
     with serve("--connections", "1") as server:
@@ -359,7 +359,7 @@ def refused(tabd: str, tmp_path_factory: pytest.TempPathFactory) -> Any:
 
 @pytest.mark.parametrize("case", CASES, ids=[case.name for case in CASES])
 def test_refused(refused: Any, case: Any) -> None:
-    """For each allocation until none is left; how often the runs ended in each way is printed."""
+    """Refuses each allocation in turn; prints how often the runs ended in each way."""
     ends: Counter[str] = collections.Counter()
     faults: List[str] = []
     case.counted(refused)
@@ -374,8 +374,8 @@ def test_refused(refused: Any, case: Any) -> None:
     assert not faults
 
 
-def test_a_journal_that_no_word_sets(refused: Any) -> None:
-    """A commit that folds takes more allocations. The table's entry stands before the commits, so as many fold nothing as the
+def test_the_default_journal(refused: Any) -> None:
+    """A commit that folds takes more allocations. The table's entry is before the commits, so as many fold nothing as the
     journal has entries, but one."""
     made = []
     with refused("--connections", "1") as server:

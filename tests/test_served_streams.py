@@ -22,7 +22,7 @@ LEFT_OUT = [("error", word) for word in ("badsession", "waiting", "not_waiting",
 
 
 def steps_of(stream: Any) -> Any:
-    """The session, request and reply of each frame; None where a payload is no request, or a reply is one that is left out."""
+    """The session, request and reply of each frame; None if a payload is no request, or a reply is one of LEFT_OUT."""
     steps = []
     for given, told in zip(stream.given, stream.told):
         try:

@@ -45,8 +45,8 @@ def too_long(connection: Connection) -> None:
     assert connection.stream.read() == b"", "its end"
 
 
-def too_long_behind_others(connection: Connection) -> None:
-    """What stands before it in one piece is answered, what stands behind it is not."""
+def too_long_after_others(connection: Connection) -> None:
+    """In one piece, the requests before it are answered, and those after it are not."""
     connection.socket.sendall(frame(("read", "t", 2)) + (1_048_577).to_bytes(4, "big") + frame("commit"))
     assert connection.receive() == ("reply", []), "before it"
     assert connection.receive() == ("reply", ("error", "badterm")), "too long"
@@ -54,7 +54,7 @@ def too_long_behind_others(connection: Connection) -> None:
 
 
 def cut(connection: Connection) -> None:
-    """Its stream ends inside a frame: nothing is told, and the stream the other way ends too."""
+    """Its stream ends inside a frame: there is no reply, and the stream the other way ends too."""
     connection.socket.sendall(frame("commit")[:-1])
     connection.half_close()
     assert connection.stream.read() == b"", "its end"
@@ -70,7 +70,7 @@ def unread(connection: Connection) -> None:
 
 @served(3)
 def test_others_go_on(clients: List[Connection]) -> None:
-    """Sessions go on while another's transaction is open, and who watches is told of what they commit."""
+    """Sessions go on while another's transaction is open, and a watching session gets the events of their commits."""
     first, second, third = clients
     script(
         (first, CREATE, ATOMIC),
@@ -108,7 +108,7 @@ def test_others_go_on(clients: List[Connection]) -> None:
     ids=["by an abort", "by a commit", "by an end", "by a broken connection"],
 )
 def test_woken(clients: List[Connection], end: Any, reply: Any, found: Any) -> None:
-    """Who waits is told the record as soon as the other's transaction ends, in each way."""
+    """A session that waits gets the record as soon as the other's transaction ends, in each way."""
     older, younger = clients
     script(
         (older, CREATE, ATOMIC),
@@ -130,8 +130,8 @@ def test_woken(clients: List[Connection], end: Any, reply: Any, found: Any) -> N
 
 
 @served(3)
-def test_a_queue_is_left(clients: List[Connection]) -> None:
-    """A queued request is dropped with its session: who stands behind it alone is woken."""
+def test_a_session_leaves_a_queue(clients: List[Connection]) -> None:
+    """A queued request is dropped with its session: the request after it is woken."""
     first, second, third = clients
     script(
         (first, CREATE, ATOMIC),
@@ -239,7 +239,7 @@ def test_two_mirrors(clients: List[Connection]) -> None:
     ],
 )
 def test_a_slow_reader(clients: List[Connection], sent: Any) -> None:
-    """Who reads nothing overflows, and is told so behind what it was sent; the other gets each commit, and no one waits."""
+    """A client that reads nothing gets an overflow after the events that were sent; the other gets each commit, and no one waits."""
     idle, writer, reader = clients
     value, count = b"v" * 4000, 200
     script((writer, CREATE, ATOMIC), (idle, watch(), HERE_OK), (reader, watch(), HERE_OK))
@@ -263,7 +263,7 @@ def test_a_slow_reader(clients: List[Connection], sent: Any) -> None:
 
 @served(2, "--outbox", "1")
 def test_an_outbox_of_one_item(clients: List[Connection]) -> None:
-    """Of an outbox of one item who is told of commits faster than it reads overflows, and is told so also where nothing came before."""
+    """With an outbox of one item, a client overflows if commits come faster than it reads, and gets the overflow also if nothing was sent before."""
     watcher, writer = clients
     script((writer, CREATE, ATOMIC))
     for first in range(1, 400, 40):
@@ -292,8 +292,8 @@ def test_an_outbox_of_one_item(clients: List[Connection]) -> None:
     ],
 )
 def test_an_outbox(clients: List[Connection], size: int) -> None:
-    """Behind a commit that is being sent an outbox holds so many, and the next overflows. The commit has no end before it is read, as
-    16 MB stand in no socket."""
+    """After a commit that is being sent an outbox has room for so many items, and the next one overflows. The commit's end is not sent before
+    its beginning is read, as no socket has room for 16 MB."""
     idle, writer = clients
     value, keys, next_one = bytes(1_000_000), range(16), size + 2
     script((writer, CREATE, ATOMIC), (idle, watch(), HERE_OK), (writer, "begin", ("tid", 1)))
@@ -308,8 +308,8 @@ def test_an_outbox(clients: List[Connection], size: int) -> None:
 
 
 @served(2, "--outbox", "1024")
-def test_beside_long_replies(clients: List[Connection]) -> None:
-    """A reply that is longer than a socket's room stands together, while others' commits are told to the same connection."""
+def test_during_long_replies(clients: List[Connection]) -> None:
+    """A reply that is longer than a socket's buffer stays in one piece, while the events of others' commits go to the same connection."""
     reader, writer = clients
     each, rows = 20, [("u", key, bytes([key]) * 200_000) for key in range(40)]
     all_rows = ("match_object", ("u", "_", "_"))
@@ -340,7 +340,7 @@ def test_beside_long_replies(clients: List[Connection]) -> None:
 )
 def test_long_items(clients: List[Connection], sent: Any) -> Any:
     """A dump, and commits with long old records, come whole, in order with short commits. All are made before the dump is read, which has
-    no end before that, so they are there at once behind it."""
+    no end before that, so they follow it at once."""
     def changed(number: int, changes: Any) -> Any:
         return sent(number, [("mnesia_table_event", ("write", "t", ("t", key, 0), old, ("tid", number))) for key, old in changes])
     mirror, writer = clients
@@ -365,7 +365,7 @@ def test_long_items(clients: List[Connection], sent: Any) -> Any:
 
 @served(3, "--batches")
 def test_batches(clients: List[Connection]) -> None:
-    """A commit's events come in one frame, with its number, where what the session watches was changed; markers come as ever."""
+    """A commit's events come in one frame, with its number, if it changed a table that the session watches; markers are the same."""
     one, other, mirror = clients
     script(
         (one, CREATE, ATOMIC),
@@ -389,7 +389,7 @@ def test_batches(clients: List[Connection]) -> None:
 
 @served(5, "--batches", "--outbox", "1024")
 def test_four_move_amounts(clients: List[Connection]) -> None:
-    """Each moves amounts between two accounts, a move in a transaction. Who applies whole commits never sees another sum, and the
+    """Each moves amounts between two accounts, one move in each transaction. A client that applies whole commits never sees another sum, and the
     commits' numbers rise by one."""
     mirror, *writers = clients
     each, first = 50, {"a": 1000, "b": 1000}
@@ -428,7 +428,7 @@ def test_four_move_amounts(clients: List[Connection]) -> None:
 
 @served(1)
 def test_refused(clients: List[Connection]) -> None:
-    """What is no term or no command is told so, and the session goes on; a payload that is too long ends it."""
+    """A payload that is no term or no command is refused, and the session goes on; a payload that is too long ends it."""
     [connection] = clients
     script((connection, "join", ("error", "badcommand")), (connection, (1, "begin"), ("error", "badcommand")))
     connection.socket.sendall(b"\0\0\0\1\x82")
@@ -450,7 +450,7 @@ def test_refused(clients: List[Connection]) -> None:
     ],
 )
 def test_frees(clients: List[Connection], end: Any) -> None:
-    """A session whose stream ends so leaves, and what it held is free."""
+    """A session whose stream ends so leaves, and its locks are released."""
     first, second = clients
     script((first, CREATE, ATOMIC))
     first.socket.sendall(b"\0\0\0\0")
@@ -472,7 +472,7 @@ def test_frees(clients: List[Connection], end: Any) -> None:
 
 @served(2)
 def test_names_of_any_length(clients: List[Connection]) -> None:
-    """Names of any length come back as they were sent: of up to 22 bytes, which stand in the term, and longer ones, which are shared."""
+    """Names of any length come back as they were sent: of up to 22 bytes, which are stored in the term, and longer ones, which are shared."""
     client, mirror = clients
     for letter, size in [("n", size) for size in (1, 21, 22, 23, 24, 254)] + [("ä", 10), ("ä", 11), ("ä", 12), ("ä", 254)]:
         name, attribute, one, other, value = (letter * size + last for last in ("", "i", "k", "l", "v"))
@@ -491,8 +491,8 @@ def test_names_of_any_length(clients: List[Connection]) -> None:
 
 
 def test_an_accept_that_fails(serve: Callable[..., Server]) -> None:
-    """With no more handles to be had, the connection that comes next is closed with no frame, and no more are accepted. Who is there
-    is served to its end, and the server ends with status 1."""
+    """If there are no more handles, the next connection is closed with no frame, and no more are accepted. The existing ones
+    are served to their end, and the server ends with status 1."""
     server = serve("--connections", "4")
     first = server.connect()
     script((first, CREATE, ATOMIC), (first, "begin", ("tid", 1)))

@@ -30,7 +30,7 @@ class Place:
         self.program, self.folder, self.path = program, folder, os.path.join(folder, "socket")
 
     def server(self, *more: Any, path: Any = None, connections: int = 2, **options: Any) -> Any:
-        """A server that says where it listens."""
+        """A server that has printed its address."""
         server = Server(self.program, "--connections", str(connections), *more, path=path or self.path, **options)
         assert server.place == (path or self.path), "the address"
         return server
@@ -62,7 +62,7 @@ def is_served(path: str) -> None:
 
 @pytest.mark.parametrize("umask, wanted", [(0o177, 0o600), (0o117, 0o660)], ids=["for one user", "for a group"])
 def test_mode(place: Any, umask: int, wanted: Any) -> None:
-    """The umask says who may connect."""
+    """The umask sets the file's permissions."""
     with place.server(umask=umask):
         assert place.file()[1:] == (stat.S_IFSOCK, wanted)
 
@@ -89,7 +89,7 @@ def test_with_counters(place: Any) -> None:
         is_served(place.path)
 
 
-def test_left_by_a_kill(place: Any) -> None:
+def test_file_of_a_killed_server(place: Any) -> None:
     """A file at which no one listens any more is taken over."""
     with place.server():
         pass
@@ -168,7 +168,7 @@ def test_no_accept(place: Any) -> None:
 
 
 def test_exchanged(place: Any) -> None:
-    """A file that has taken the place of the server's own is not its to remove."""
+    """The server does not remove a file that has replaced its own."""
     with place.server() as server:
         connections = [Connection(place.path) for _ in range(2)]
         with socket.socket(socket.AF_UNIX) as other:
@@ -192,7 +192,7 @@ def test_removed(place: Any) -> None:
 
 
 def test_no_page(place: Any) -> None:
-    """A start that fails behind the file's making removes it."""
+    """A start that fails after it has created the file removes it."""
     with socket.create_server(("127.0.0.1", 0)) as taken:
         place.refused(IN_USE, "--log", "--metrics", str(taken.getsockname()[1]))
         assert os.listdir(place.folder) == [], "the folder"

@@ -59,7 +59,7 @@ class Replay:
         return [term_of(one)[1] for one in self.told(self.frames(steps), len(steps))]
 
     def book(self, model: Callable[[int], Book]) -> Book:
-        """The model of the run, as it stood when the first steps were asked."""
+        """The model of the run, as it was before the first steps."""
         book = model(self.outbox)
         book.tables, book.age, book.number, book.last = EMPTY, self.age, self.number, self.first + self.count - 1
         book.sessions = {self.first + who: Session() for who in range(self.count)}

@@ -123,7 +123,7 @@ class Writer:
         return self.depth > 0
 
     def move(self, left: int) -> Any:
-        """The next move, with so many operations left."""
+        """The next move, with so many operations still to do."""
         if left > 0:
             level = self.chance.random()
             if self.depth < 4 and level < 0.08:
@@ -148,7 +148,7 @@ class Writer:
             going = self.note(move, *told)
 
     def give_up(self, move: Any) -> Any:
-        """An operation, and an abort behind it at once or where no reply has come soon: where the operation waits it is told nothing. Whether
+        """An operation, and an abort at once after it or if no reply comes soon: an operation that waits then has no reply. Returns whether
         the transaction goes on."""
         self.given_up += 1
         abort, sent, soon = ("abort", self.given_up), now(), self.chance.choice([0, 0.0005, 0.01, 0.03])
@@ -189,7 +189,7 @@ class Writer:
         self.connection = Connection(self.game.port)
 
     def ahead(self) -> None:
-        """A transaction in one piece: what follows a restart in it stands alone."""
+        """A transaction in one piece: after a restart the following requests are the whole transaction."""
         moves = ["begin", *(self.chance.operation(fails=False) for _ in range(self.chance.randrange(1, 6))), "commit"]
         sent = now()
         self.connection.send(*moves)
@@ -269,7 +269,7 @@ class Watcher(Log):
             self.watched.add(tab)
 
     def unsubscribe(self, tab: str) -> bool:
-        """Where it is not watched any more an overflow comes, or has come."""
+        """If the table is not watched any more, an overflow comes, or has come."""
         reply = self.ask(("unsubscribe", ("table", tab, self.level)))
         if reply[0] == "ok":
             self.watched.discard(tab)
@@ -385,7 +385,7 @@ class Game:
         return self.attempts[-1].number, self.attempts[-1].age
 
     def run(self) -> Any:
-        """Plays the round, and has all that was told in it. Undecided where no recorder has the whole order."""
+        """Plays the round, and returns all replies and events. Undecided if no recorder has the whole order."""
         return Run(self.attempts, self.shots, self.watchers, self.play(), OUTBOX)
 
     def told(self) -> str:

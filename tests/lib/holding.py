@@ -46,7 +46,7 @@ def transaction(client: Connection, requests: Any, size: int) -> None:
 
 
 def commit_nothing(client: Connection, count: int = JOURNAL) -> None:
-    """So many commits that tell nothing: of the journal's entries the oldest go."""
+    """So many empty commits: they push the oldest entries out of the journal."""
     client.send(*[one_shot()] * count)
     wanted = frame(("reply", ("atomic", []))) * count
     holds("commits of nothing", take(client.stream, len(wanted)) == wanted)
@@ -83,7 +83,7 @@ def table(record: Any, count: int, each: int = 10, options: Any = ()) -> Any:
 
 
 def long_reads(transactions: Any, reads: Any) -> Any:
-    """Transactions that read one record so often, of which the journal tells."""
+    """Transactions that each read one record so often, which the journal keeps."""
 
     def hold(server: Server, client: Connection) -> Any:
         [record] = client.ask(("transaction", [("read", "t", 0)], 0))[1][0]
@@ -108,7 +108,7 @@ def short_reads(count: int) -> Any:
 
 
 def whole_reads(request: Any, answer: Any, count: int, writes: bool = False) -> Any:
-    """Transactions that each ask for all of the table; where each writes before, a record of its own."""
+    """Transactions that each read the whole table; with `writes` each first writes a record of its own."""
     size = size_of(answer)
 
     def hold(server: Server, client: Connection) -> Any:
@@ -154,7 +154,7 @@ def dumps(count: int, records: Any) -> Any:
 
 
 def old_records(record: Any, count: int) -> Any:
-    """All of a table's records are deleted in a one-shot, and told to a session that takes nothing."""
+    """All of a table's records are deleted in a one-shot, and a session that reads nothing watches the table."""
 
     def hold(server: Server, client: Connection) -> Any:
         mirror = server.connect()
@@ -169,7 +169,7 @@ def old_records(record: Any, count: int) -> Any:
 
 
 def measured(server: Server, make: Any, hold: Any) -> Tuple[Any, ...]:
-    """The kilobytes that it holds with a table alone, and with what one client makes it hold."""
+    """The server's kilobytes with only a table, and after one client's requests."""
     client = server.connect()
     make(client)
     commit_nothing(client)
@@ -200,7 +200,7 @@ def bag_record(number: int) -> Tuple[Any, ...]:
 
 
 def bag_writes(records: Any, count: int) -> Any:
-    """At its peak, so many writes of a one-shot to a key of so many records, told to a session that takes nothing."""
+    """The peak of so many writes of a one-shot to a key of so many records; a session that reads nothing watches the table."""
     written = [bag_record(records + number) for number in range(count)]
 
     def hold(server: Server, client: Connection) -> Any:

@@ -36,7 +36,7 @@ class Attempt:
     def __init__(self, age: Any, sent: Any, got: Any) -> None:
         self.age, self.began = age, (sent, got)
         self.steps: List[Any] = []
-        # How it ended, when that was asked for and when it was told; the operation that died or was never answered.
+        # How it ended, the times of that request and its reply; the operation that died or was never answered.
         self.end, self.sent, self.got, self.last = None, math.inf, math.inf, None
         self.number = None
         # Operations whose wait an abort has ended, and when they were asked.
@@ -49,7 +49,7 @@ class Attempt:
         return self.end in ("commit", "maybe")
 
     def alone(self, tables: Any) -> Tuple[Any, ...]:
-        """Its updates where it is told what it was told; else the first move that is told something else."""
+        """Its updates if its replies, run serially, are those of the log; else the first move with another reply."""
         alone = Alone(tables)
         for move, reply, *_ in self.steps:
             told = alone.tell(move)
@@ -59,13 +59,13 @@ class Attempt:
         return alone.updates, None
 
     def locks(self) -> Iterator[Any]:
-        """What it surely held, from when to when."""
+        """The locks that it surely had, with their times."""
         for move, _, _, got in self.steps:
             if is_operation(move) and got < self.sent:
                 yield lock_of(move), got, self.sent
 
     def asked(self) -> Iterator[Any]:
-        """What it asked for, and in which time it may have held it or waited for it."""
+        """The locks that it requested, with the times in which it may have had them or waited for them."""
         until = self.got
         for move, _, sent, _ in self.steps + ([self.last] if self.last else []):
             if is_operation(move):
@@ -116,7 +116,7 @@ class Run:
         self.attempts, self.shots, self.logs, self.closing, self.outbox = attempts, shots, logs, closing, outbox
 
     def save(self, path: str) -> None:
-        """A record: a line for each transaction and subscriber, as a Python literal, in which LONG and inf stand for themselves."""
+        """A record: a line for each transaction and subscriber, as a Python literal, with the names LONG and inf."""
         rows = [("run", {"closing": self.closing, "outbox": self.outbox})]
         rows += [(type(it).__name__, vars(it)) for it in [*self.attempts, *self.shots]] + [("Log", log.fields()) for log in self.logs]
         with open(path, "w", encoding="utf-8") as file:
@@ -191,14 +191,14 @@ class Times:
         self.least = list(itertools.accumulate((place for _, place in asked), min, initial=len(commits) + 1))
 
     def between(self, sent: Any, got: Any) -> Tuple[Any, ...]:
-        """The places whose tables something may have seen that was asked for and answered then."""
+        """The positions whose tables a request of these times may have seen."""
         first = self.greatest[bisect.bisect_left(self.over, sent)]
         return first, self.least[bisect.bisect_left(self.asked, -got)] - 1
 
 
 def stretches(frames: Any) -> Iterator[Any]:
-    """Of each commit that a recorder was told without a gap before it, the age of the one before, and its age and events. The first
-    is behind None; it watches both tables again from their second marker on."""
+    """Of each commit that a recorder received without a gap before it, the age of the one before, and its age and events. None is
+    before the first; it watches both tables again from their second marker on."""
     age, marks = None, 0
     for kind, group in itertools.groupby((term for term, _ in frames), lambda term: term[0] == "mnesia_table_event" and term[1][-1][1]):
         told = list(group)
@@ -221,7 +221,7 @@ class Judge:
         (self.closing, self.last), self.outbox = run.closing, run.outbox
 
     def faults(self) -> List[Any]:
-        """All that are found; the order first, on which the rest stands."""
+        """All faults; those of the order first, on which the other checks depend."""
         try:
             self.commits = self.order(self.recorded())
             self.run()
@@ -238,7 +238,7 @@ class Judge:
         return [fault for fault in found if fault]
 
     def recorded(self) -> Any:
-        """The events of all commits in their order, each commit's together: an age, and their terms. Where one recorder missed some,
+        """The events of all commits in their order, each commit's together: an age, and their terms. If one recorder missed some,
         another goes on."""
         after: Dict[Any, Any] = {}
         for watcher in self.watchers:
@@ -290,7 +290,7 @@ class Judge:
         return bool(depths[0])
 
     def run(self) -> None:
-        """Each alone, on the tables of those before it."""
+        """Runs each serially, on the tables after those before it."""
         self.worlds = [EMPTY]
         self.batches: List[List[Tuple[str, Dict[str, Any]]]] = [[]]
         for commit in self.commits:
@@ -306,7 +306,7 @@ class Judge:
         self.touched = {tab: [at for at, told in enumerate(self.batches) if any(it[0] == tab for it in told)] for tab in EMPTY}
 
     def number(self) -> None:
-        """The commits' numbers: each once, and enough of them left for those who are told none."""
+        """The commits' numbers: each once, and enough other ones for the commits whose replies have none."""
         known = [it.number for it in self.attempts if it.end == "commit"]
         if len(set(known)) != len(known) or max(known) != self.closing:
             raise Differs("numbers of commits come twice, or are over the last one's")
@@ -322,7 +322,7 @@ class Judge:
         self.share(free)
 
     def share(self, free: Any) -> None:
-        """The numbers that are left between two commits, for those between them that are told none."""
+        """The unused numbers between two commits, for those between them whose replies have none."""
         before, pending = 0, []
         for commit in [*self.commits, None]:
             number = commit.who.number if commit else self.closing + 1
@@ -346,7 +346,7 @@ class Judge:
         return against_time(commits) or against_time(named("commit", numbers)) or against_time(named("the begin of age", firsts))
 
     def seen_at(self, who: Any) -> Any:
-        """Where in the order all that was told to somebody who changed nothing may have stood."""
+        """The positions in the order that the replies of a transaction that changed nothing may have."""
         if isinstance(who, OneShot):
             return self.times.between(who.sent, who.got)
         if who.number is None:
@@ -357,14 +357,14 @@ class Judge:
         return max(first, before + under), min(last, before + over)
 
     def near(self, number: int) -> Tuple[Any, ...]:
-        """The commits that are told no number, between the last that is told one below this and the first above; and how many are
+        """The commits whose replies have no number, between the last with a lesser number and the first with a greater one; and how many are
         before them."""
         at = bisect.bisect(self.told, (number, 0))
         before = self.told[at - 1][1] + 1 if at else 0
         return before, self.commits[before : self.told[at][1] if at < len(self.told) else len(self.commits)]
 
     def readers(self) -> Iterator[Any]:
-        """Those who changed nothing: what they were told stood in the tables at their time."""
+        """Checks transactions that changed nothing: their replies are those of the tables at their time."""
         wrote = {id(commit.who) for commit in self.commits}
         told = [it for it in self.attempts if it.steps] + [it for it in self.shots if it.reply and it.reply != ("aborted", "nomore")]
         for who in told:
@@ -377,7 +377,7 @@ class Judge:
                 yield f"{what}, at {first} to {last} of the order: {faults[-1] if faults else 'no such place'}"
 
     def locks(self) -> Any:
-        """Two who surely held conflicting locks at once; and whether any are open at once."""
+        """Finds two transactions that surely had conflicting locks at once."""
         spans = sorted((start, end, Owner(it), lock) for it in self.attempts for lock, start, end in it.locks())
         held: List[Any] = []
         most = 0
@@ -391,7 +391,7 @@ class Judge:
         return None if most > 2 or len(self.commits) < FEW else "transactions are open one after another"
 
     def restarts(self) -> Iterator[Any]:
-        """Who was restarted met an older one, who held a lock or waited for it."""
+        """Checks that each restarted transaction met an older one that had a lock or waited for it."""
         asked = sorted((sent, until, Owner(it), lock) for it in [*self.attempts, *self.shots] for lock, sent, until in it.asked())
         # A client that vanished may have requested it until the end.
         gone, asked = [it for it in asked if it[1] == math.inf], [it for it in asked if it[1] < math.inf]
@@ -458,7 +458,7 @@ class Follower:
             raise Differs(f"it never received the end of {list(self.level)}")
 
     def batch(self, frames: Any, got: Any) -> Any:
-        """The events of one commit, which stand together."""
+        """The events of one commit, which have to be together."""
         for place in {self.next(place) for place in self.at}:
             owed = self.owed(place)
             # A client that vanished may have received some of them.
@@ -472,7 +472,7 @@ class Follower:
         raise Differs(f"received {frames[0]}, and the next is of {[self.owed(self.next(place))[:1] for place in self.at[:2]]}")
 
     def mirror(self, event: Any) -> None:
-        """A copy goes by the event alone."""
+        """A copy depends only on the event."""
         what = event[1] if len(event) == 3 else event[2]
         if (rows := self.copies.get(what[0])) is None:
             return
@@ -523,7 +523,7 @@ class Follower:
         return at
 
     def overflow(self, number: int) -> None:
-        """Its outbox held as much as it can when the commit came."""
+        """Its outbox was full when the commit came."""
         for place in {self.next(place) for place in self.at} - {len(self.judge.batches)}:
             commit, held = self.judge.commits[place - 1], self.items[-self.judge.outbox :]
             if commit.least <= number <= commit.most:

@@ -1,5 +1,5 @@
-"""Tables, and transactions alone on them: the judge (judging.py) compares a served run with these, and a replay is compared with the sessions of
-sessions.py, which make them. It shares no code with the server.
+"""A serial model of transactions, on plain tables. The judge (judging.py) compares a served run with it, and sessions.py makes its sessions'
+transactions by it. It shares no code with the server.
 
 A table's records are stored under the encodings of their keys, and those of a key in the order of their insertion. Tables are never changed:
 each change makes new ones, so those of every commit can be kept.
@@ -165,7 +165,7 @@ class Alone:
         return [table.rows[key][0][1] for key in sorted(table.rows)] if what == "all_keys" else "ok"
 
     def members(self, parts: List[Term]) -> List[Term]:
-        """What the members of a one-shot are told, up to the end of the level that they began in."""
+        """The replies to the members of a one-shot, up to the end of the level that they began in."""
         depth, told = len(self.saved), []
         for part in parts:
             told.append(self.child(part[1]) if part[0] == "transaction" else self.tell(part))

@@ -28,7 +28,7 @@ class LosesAReadLock(Book):
 
 
 class RestartsForAYounger(Book):
-    """Who meets a younger one does not wait."""
+    """A session that meets a younger one does not wait."""
 
     def waits(self, session: Session, opposed: List[int]) -> bool:
         return False
@@ -65,7 +65,7 @@ class IndexesTheKey(Book):
 
 
 class NumbersAnOverflowLate(Book):
-    """By the commit behind the first of which nothing was told."""
+    """By the commit after the first one of which no event came."""
 
     def put(self, session: Session, item: Term, number: int) -> None:
         super().put(session, item, number + (item[0] == "batch"))
@@ -79,7 +79,7 @@ class KeepsADeletedTable(Book):
             super().put(session, item, number)
 
 
-# Of those whose sessions meet how many steps at most behind the begins find them, and of those that watch.
+# The number of steps after the begins that find the fault, at most: of sessions that meet, and of sessions that watch.
 MEETING = {KeepsAChild: 4, LosesAReadLock: 2, RestartsForAYounger: 2, GrantsARetry: 3}
 WATCHING = {NumbersAnOverflowLate: 4, KeepsADeletedTable: 2}
 PLANTED = [NamesNoSession, *MEETING, IndexesTheKey, *WATCHING]

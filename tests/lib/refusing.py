@@ -18,7 +18,7 @@ NO_MEMORY = ("error", "no_memory")
 
 
 def built(name: str, folder: Any) -> Any:
-    """The library of a source that stands beside this file."""
+    """The library of a source in this file's folder."""
     source, library = os.path.join(os.path.dirname(__file__), f"{name}.c"), os.path.join(folder, f"{name}.so")
     subprocess.run(["cc", "-shared", "-fPIC", "-O1", "-o", library, source, "-ldl", "-lpthread"], check=True)
     return library
@@ -45,7 +45,7 @@ class RefusedReplay:
         self.process.communicate()
 
     def ask(self, given: Any) -> Any:
-        """The reply's frame, or None where the run has ended."""
+        """The reply's frame, or None if the run has ended."""
         try:
             self.process.stdin.write(given)
         except BrokenPipeError:
@@ -61,7 +61,7 @@ class RefusedReplay:
         return told
 
     def asked(self, given: Any, wanted: Any) -> Any:
-        """The reply, which is the wanted one, if need be when it is asked again. None where the run has ended."""
+        """The reply, which has to be the wanted one, at the latest when the request is sent again. None if the run has ended."""
         told = self.ask(given)
         if told is not None and is_no_memory(told, wanted) and told != wanted:
             self.refused += 1
@@ -70,7 +70,7 @@ class RefusedReplay:
         return told
 
     def ended(self) -> Tuple[Any, ...]:
-        """Where memory was refused, and how the run ended."""
+        """The step at which memory was refused, and how the run ended."""
         _, err = self.process.communicate()
         with open(self.report, encoding="utf-8") as file:
             where = tuple(map(int, file.read().split()))

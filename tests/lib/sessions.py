@@ -257,7 +257,7 @@ class Book:
         return ("atomic", told)
 
     def members(self, session: Session, parts: List[Term]) -> List[Term]:
-        """What they are told, up to the end of the level that they began in."""
+        """The replies to the members of a one-shot, up to the end of the level that they began in."""
         told: List[Term] = []
         depth = len(session.alone.saved)
         for part in parts:
@@ -309,7 +309,7 @@ class Book:
         yield from (lock_of(session.queued) for session in self.queue)
 
     def altered(self, name: str, tab: str, given: Term) -> Table:
-        """The table behind a command."""
+        """The table after a command."""
         if name == "create_table":
             return created(tab, given)
         table = self.tables[tab]

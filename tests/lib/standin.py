@@ -136,7 +136,7 @@ class Wrong:
         return term
 
     def told(self, link: Any, term: Any) -> List[Any]:
-        """What the client is told."""
+        """The frames that the client receives."""
         return [term]
 
     def gone(self, link: Any) -> None:
@@ -146,7 +146,7 @@ class Wrong:
         return is_event(term) and not (self.spares and link.records) and self.now_and_then()
 
     def by_itself(self, link: Any, request: Any) -> bool:
-        """Reads outside of the client's transaction, where that is told the same. Whether it did."""
+        """Reads outside of the client's transaction, if the reply is the same. Returns whether it did."""
         if link.pending or not link.depth:
             return False
         with self.aside_lock:
