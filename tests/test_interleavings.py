@@ -22,8 +22,8 @@ from tests.lib.wire import PATIENCE, Connection, Term
 
 pytestmark = pytest.mark.usefixtures("plain")
 
-# A session that waits sleeps for a second if it is not woken. Then no reply comes for so many seconds, while a thread of the test, on the same processors, was
-# never late by so many.
+# A session that waits sleeps for a second if it is not woken. Then no reply comes for so many seconds, and a thread of the test, on the same
+# processors, was never late by so many.
 SILENCE, LATE = 0.5, 0.2
 # So many waits at once, each for a lock of its own, in so many turns; their ends are watched by so many sessions. A session that waits asks for
 # its lock once more after twenty milliseconds, and the locks are free at about that time.
