@@ -23,6 +23,7 @@ FAILED = pytest.StashKey[bool]()
 def pytest_addoption(parser: pytest.Parser) -> None:
     parser.addoption("--tabd", metavar="PATH", default=BUILT, help="the program to test (default: $TABD, or crates/tabd/out/tabd)")
     parser.addoption("--rounds", type=int, default=4, help="so many rounds of test_history.py, of four seconds each (default: 4)")
+    parser.addoption("--seeds", type=int, default=20, help="so many seeds of test_interleavings.py (default: 20)")
     parser.addoption("--seed", type=int, default=1, help="the seed of the first round; each that follows has the next (default: 1)")
     parser.addoption("--examples", type=int, help="so many new examples of each property (default: 40, the same in each run)")
     parser.addoption("--wrong", action="store_true", help="also that each wrong server and program is found, in some minutes")
@@ -43,9 +44,13 @@ def pytest_configure(config: pytest.Config) -> None:
 
 @pytest.hookimpl(tryfirst=True)
 def pytest_cmdline_main(config: pytest.Config) -> None:
-    """A run of everything takes all processors, unless it says otherwise; one that names cases takes this process."""
+    """A run of everything takes all processors, unless it says otherwise; one that names cases takes this process. A worker of xdist has the
+    same arguments and no number of processes, and must not start workers of its own."""
     option = config.option
-    is_whole = all(os.path.isdir(it) for it in config.args) and not (option.keyword or option.markexpr or option.lf or option.collectonly)
+    if hasattr(config, "workerinput"):
+        return
+    chosen = option.keyword or option.markexpr or getattr(option, "lf", False) or option.collectonly
+    is_whole = not chosen and all(os.path.isdir(it) for it in config.args)
     if is_whole and getattr(option, "numprocesses", 0) is None and not option.usepdb and option.capture != "no":
         option.numprocesses, option.dist = "auto", "loadgroup"
 

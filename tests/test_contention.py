@@ -7,17 +7,19 @@ bounds of time. Other work on the machine changes them, so a case that fails is 
 
 import os
 import random
+import resource
 import select
 import statistics
 import subprocess
 import threading
 import time
-from typing import List
+from typing import Any, Callable, List, Tuple
 
 import pytest
 
 from tests.lib.checks import ATOMIC, CREATE, OK, one_shot, script, side_by_side, waits, write
-from tests.lib.wire import frame
+from tests.lib.servers import Server
+from tests.lib.wire import Connection, frame
 
 served, pytestmark = pytest.mark.served, [pytest.mark.serial, pytest.mark.tries(3)]
 
@@ -33,32 +35,32 @@ SECONDS = 2.0
 # So many connections raise one record for so many milliseconds, and most of their commits come after another connection's. If the machine
 # takes the others' processors away only one goes on, so the case has so many tries, with so many seconds between.
 TAKERS, TURNS, MOST_AGAIN = 8, 500, 0.5
-TRIES, PAUSE = 15, 2.0
+TRIES, PAUSE, LEFT_TO_OTHERS = 15, 2.0, 0.2
 # A table of so many keys, all of which a one-shot asks for so many times.
 KEYS, ASKED = 30_000, 50
 
 
-def timed(call, *given):
+def timed(call: Callable[..., Any], *given: Any) -> Tuple[Any, ...]:
     """What it gives, and how many seconds it took."""
     began = time.monotonic()
     return call(*given), time.monotonic() - began
 
 
-def between(what, least, seconds, most):
+def between(what: str, least: float, seconds: float, most: float) -> None:
     assert least <= seconds <= most, f"{what}: {seconds:.3f} s, wanted {least} to {most}"
 
 
-def middle(what, seconds, most):
+def middle(what: str, seconds: List[float], most: float) -> None:
     between(f"{what}, in the middle", 0, statistics.median(seconds), most)
 
 
-def opened(*connections):
+def opened(*connections: Connection) -> None:
     """Each has a transaction, in the order of their ages."""
     for connection in connections:
         assert connection.ask("begin")[0] == "tid", "begin"
 
 
-def resting(holder, *others):
+def resting(holder: Connection, *others: Connection) -> None:
     """The holder has locked record 1; each of the others has done something and backs off for it."""
     opened(holder, *others)
     script((holder, WREAD, [("t", 1, 0)]))
@@ -68,12 +70,12 @@ def resting(holder, *others):
     time.sleep(0.02)
 
 
-def table_of(connection):
+def table_of(connection: Connection) -> None:
     """A table with record 1."""
     script((connection, CREATE, ATOMIC), (connection, one_shot(write(1, 0)), ("atomic", [OK])))
 
 
-def received_after(connection, reply):
+def received_after(connection: Connection, reply: Any) -> Any:
     """The pending reply, and when it came."""
     found, seconds = timed(connection.receive)
     assert found == ("reply", reply)
@@ -81,7 +83,7 @@ def received_after(connection, reply):
 
 
 @served(2)
-def test_a_restart_comes(clients):
+def test_a_restart_comes(clients: List[Connection]) -> None:
     """One thread drives both: the restart comes while the other's transaction is open, and the younger goes on after it."""
     older, younger = clients
     script((older, CREATE, ATOMIC))
@@ -94,7 +96,7 @@ def test_a_restart_comes(clients):
 
 
 @served(2)
-def test_two_upgrades(clients):
+def test_two_upgrades(clients: List[Connection]) -> None:
     """Both read, both write: the older waits until the younger was restarted."""
     older, younger = clients
     script((older, CREATE, ATOMIC))
@@ -108,7 +110,7 @@ def test_two_upgrades(clients):
 
 
 @served(3)
-def test_no_overtaking(clients):
+def test_no_overtaking(clients: List[Connection]) -> None:
     """A request after an older queued one backs off, though it does not conflict with the granted lock."""
     first, second, third = clients
     script((first, CREATE, ATOMIC))
@@ -122,7 +124,7 @@ def test_no_overtaking(clients):
 
 
 @served(2)
-def test_phantom(clients):
+def test_phantom(clients: List[Connection]) -> None:
     """A look-up by an index is not joined by a record that was not there."""
     reader, writer = clients
     create = ("create_table", "x", [("attributes", ["k", "v"]), ("index", ["v"])])
@@ -133,7 +135,7 @@ def test_phantom(clients):
 
 @served(2)
 @pytest.mark.parametrize("end", [("abort", "why"), "commit"], ids=["an abort", "a commit"])
-def test_an_end_wakes(clients, end):
+def test_an_end_wakes(clients: List[Connection], end: Any) -> None:
     """A session in back-off gets `restart` as soon as the holder's transaction ends, and then goes on."""
     holder, other = clients
     table_of(holder)
@@ -148,7 +150,7 @@ def test_an_end_wakes(clients, end):
 
 
 @served(2)
-def test_a_commit_grants(clients):
+def test_a_commit_grants(clients: List[Connection]) -> None:
     """A session that waits gets its lock as soon as the holder's transaction ends."""
     older, holder = clients
     table_of(holder)
@@ -165,7 +167,7 @@ def test_a_commit_grants(clients):
 
 
 @served(3)
-def test_the_oldest_first(clients):
+def test_the_oldest_first(clients: List[Connection]) -> None:
     """Of two in back-off for one record the older goes on first, and the younger not before its end, if it ends soon."""
     holder, older, younger = clients
     table_of(holder)
@@ -184,7 +186,7 @@ def test_the_oldest_first(clients):
 
 
 @served(3)
-def test_an_idle_one_is_passed(clients):
+def test_an_idle_one_is_passed(clients: List[Connection]) -> None:
     """The older got `restart` and does nothing: the younger goes on nevertheless, after one or two sleeps."""
     holder, older, younger = clients
     table_of(holder)
@@ -201,7 +203,7 @@ def test_an_idle_one_is_passed(clients):
 
 
 @served(3)
-def test_one_vanishes(clients):
+def test_one_vanishes(clients: List[Connection]) -> None:
     """A client that vanishes during a back-off leaves, and its locks are released; the next one goes on."""
     holder, first, second = clients
     table_of(holder)
@@ -213,11 +215,11 @@ def test_one_vanishes(clients):
 
 
 @served(2)
-def test_opposite_orders(clients):
+def test_opposite_orders(clients: List[Connection]) -> None:
     """One-shots of forty writes in opposite orders: a one-shot's steps are done together, so none is ever restarted."""
     keys = list(range(40))
 
-    def write_all(connection, order):
+    def write_all(connection: Connection, order: Any) -> None:
         for number in range(100):
             told = connection.ask(one_shot(*(write(key, number) for key in order)))
             assert told == ("atomic", [OK] * len(keys)), "one-shot"
@@ -227,7 +229,7 @@ def test_opposite_orders(clients):
 
 
 @served(2)
-def test_a_one_shot_is_patient(clients):
+def test_a_one_shot_is_patient(clients: List[Connection]) -> None:
     """Its retries are its patience, a tenth of a second each."""
     holder, other = clients
     script((holder, CREATE, ATOMIC), (holder, "begin", ("tid", 1)), (holder, WREAD, []))
@@ -242,18 +244,18 @@ def test_a_one_shot_is_patient(clients):
 
 
 @served(2)
-def test_long_answers(clients):
+def test_long_answers(clients: List[Connection]) -> None:
     """A one-shot with a long reply lets other requests in between its members: another's read waits at most a quarter of it."""
     asker, other = clients
     script((asker, CREATE, ATOMIC))
     for first in range(0, KEYS, 1_000):
         script((asker, one_shot(*(write(key, 0) for key in range(first, first + 1_000))), ("atomic", [OK] * 1_000)))
 
-    def ask_all():
+    def ask_all() -> None:
         asker.send(one_shot(*[("all_keys", "t")] * ASKED))
         asker.payload()
 
-    def read_on():
+    def read_on() -> None:
         time.sleep(0.02)
         while whole.is_alive():
             waited.append(timed(other.ask, one_shot(READ))[1])
@@ -269,11 +271,11 @@ def test_long_answers(clients):
 
 
 @served(16)
-def test_sixteen_raise(clients):
+def test_sixteen_raise(clients: List[Connection]) -> None:
     """Sixteen raise one record, each after a read for a write; how often they are restarted."""
     each, restarts = 25, []
 
-    def attempt(connection):
+    def attempt(connection: Connection) -> None:
         connection.ask("begin")
         while True:
             found = connection.ask(WREAD)
@@ -282,7 +284,7 @@ def test_sixteen_raise(clients):
             restarts.append(connection)
         assert connection.ask("commit")[0] == "atomic", "commit"
 
-    def raise_all(connection):
+    def raise_all(connection: Connection) -> None:
         for _ in range(each):
             attempt(connection)
 
@@ -294,12 +296,12 @@ def test_sixteen_raise(clients):
 
 
 @served(16)
-def test_mixed_load(clients):
+def test_mixed_load(clients: List[Connection]) -> None:
     """Transactions and one-shots over three records, in opposite orders, some of which abort, for a while: no one-shot is
     given up, the sum is right, and each session makes progress."""
     end, raised, longest = time.monotonic() + SECONDS, [], [0.0]
 
-    def raise_one(connection, chance):
+    def raise_one(connection: Connection, chance: random.Random) -> None:
         connection.ask("begin")
         while True:
             found = connection.ask(("wread", ("t", 0)))
@@ -311,11 +313,11 @@ def test_mixed_load(clients):
             assert connection.ask("commit")[0] == "atomic", "commit"
             raised.append(1)
 
-    def write_both(connection, keys, value):
+    def write_both(connection: Connection, keys: Any, value: Any) -> None:
         told = connection.ask(one_shot(*(write(key, value) for key in keys), retries=1000))
         assert told == ("atomic", [OK, OK]), "one-shot"
 
-    def load(connection, seed):
+    def load(connection: Connection, seed: int) -> None:
         chance, keys = random.Random(seed), (1, 2) if seed % 2 else (2, 1)
         while time.monotonic() < end:
             if chance.random() < 0.5:
@@ -334,7 +336,7 @@ def test_mixed_load(clients):
 
 
 @pytest.fixture(scope="module")
-def load(tmp_path_factory):
+def load(tmp_path_factory: pytest.TempPathFactory) -> Any:
     """A client that loses no time, in C."""
     built = str(tmp_path_factory.mktemp("load") / "load")
     source = os.path.join(os.path.dirname(__file__), "..", "bench", "beside.c")
@@ -342,7 +344,7 @@ def load(tmp_path_factory):
     return built
 
 
-def again_of(server, load):
+def again_of(server: Server, load: Any) -> Any:
     """The share of the commits at one record that came after one of the same connection."""
     first = server.connect()
     script((first, CREATE, ATOMIC))
@@ -356,13 +358,32 @@ def again_of(server, load):
     return again
 
 
+def busy() -> float:
+    """So many seconds of all processors were used since the start, also by their host for others."""
+    with open("/proc/stat", encoding="ascii") as file:
+        user, nice, system, _, _, *others = map(int, file.readline().split()[1:9])
+    return (user + nice + system + sum(others)) / os.sysconf("SC_CLK_TCK")
+
+
+def by_others(server: Server, load: str) -> Tuple[float, float]:
+    """A try's share, and which share of the processors others used meanwhile."""
+    began, used, before = time.monotonic(), resource.getrusage(resource.RUSAGE_CHILDREN), busy()
+    share = again_of(server, load)
+    after = resource.getrusage(resource.RUSAGE_CHILDREN)
+    own = server.used() + after.ru_utime + after.ru_stime - used.ru_utime - used.ru_stime
+    return share, (busy() - before - own) / ((time.monotonic() - began) * (os.cpu_count() or 1))
+
+
 @pytest.mark.tries(1)
-def test_turns_at_one_record(serve, load):
+def test_turns_at_one_record(serve: Callable[..., Server], load: str) -> None:
     """Sessions that contend for one record take turns: a session that begins its next transaction at once does not lock the record again and
-    again, before the sessions that wait for it are awake."""
-    found: List[float] = []
-    while len(found) < TRIES and not any(share <= MOST_AGAIN for share in found):
+    again, before the sessions that wait for it are awake. A try shows it either way only if others leave the processors free."""
+    found: List[Tuple[float, float]] = []
+    while len(found) < TRIES and not any(share <= MOST_AGAIN for share, _ in found):
         time.sleep(PAUSE if found else 0)
         with serve("--connections", str(TAKERS + 1)) as server:
-            found.append(again_of(server, load))
-    assert min(found) <= MOST_AGAIN, f"shares {found}"
+            found.append(by_others(server, load))
+    told = f"shares of commits, and of the processors for others: {[(round(share, 2), round(others, 2)) for share, others in found]}"
+    if min(found)[0] > MOST_AGAIN and all(others > LEFT_TO_OTHERS for _, others in found):
+        pytest.skip(f"other work has the processors; {told}")
+    assert min(found)[0] <= MOST_AGAIN, told

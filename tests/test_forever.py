@@ -6,12 +6,13 @@ Each case has a server of its own: one at a port, and if the two kinds of socket
 import random
 import signal
 import time
+from typing import Any, Iterator, Tuple
 
 import pytest
 
 from tests.lib.checks import ATOMIC, CREATE, HERE_OK, LIMIT, MARK, OK, event, script, waits, watch, write
-from tests.lib.servers import descriptors, forever
-from tests.lib.wire import frame
+from tests.lib.servers import Server, descriptors, forever
+from tests.lib.wire import Connection, frame
 
 NOT_ACCEPTED = "tabd: no connection was accepted\n"
 # Those that are run at a socket file too: what waits, breaks off, is idle, or leaves a descriptor.
@@ -21,12 +22,12 @@ pytestmark = pytest.mark.serial
 
 
 @pytest.fixture
-def place():
+def place() -> str:
     return "at a port"
 
 
 @pytest.fixture
-def server(request, tabd, tmp_path, place):
+def server(request: pytest.FixtureRequest, tabd: str, tmp_path: Any, place: Any) -> Iterator[Any]:
     mark = request.node.get_closest_marker("seats")
     files = mark.kwargs.get("files")
     path = str(tmp_path / "socket") if place == "at a file" else None
@@ -36,7 +37,7 @@ def server(request, tabd, tmp_path, place):
 
 @seats(8)
 @at_both
-def test_the_ninth_is_refused(server):
+def test_the_ninth_is_refused(server: Server) -> None:
     """A connection too many is refused and closed, and the others go on; after one has left another is served."""
     connections = [server.connect() for _ in range(8)]
     for age, connection in enumerate(connections, 1):
@@ -53,7 +54,7 @@ def test_the_ninth_is_refused(server):
 
 @seats(2)
 @at_both
-def test_a_pause(server):
+def test_a_pause(server: Server) -> None:
     """The server waits for the only client, which has sent many requests, without using a processor, and keeps its transaction."""
     connection = server.connect()
     script((connection, CREATE, ATOMIC), (connection, "begin", ("tid", 1)))
@@ -67,7 +68,7 @@ def test_a_pause(server):
     server.is_stopped()
 
 
-def at_last(connection, request):
+def at_last(connection: Connection, request: Any) -> Any:
     """The reply, although a session that broke off may leave later than a restarted request backs off."""
     for _ in range(100):
         if (reply := connection.ask(request)) != "restart":
@@ -77,7 +78,7 @@ def at_last(connection, request):
 
 @seats(2)
 @at_both
-def test_tables_outlive_connections(server):
+def test_tables_outlive_connections(server: Server) -> None:
     """All have left, one during a transaction, and the next client finds what was committed."""
     first, second = server.connect(), server.connect()
     script((first, CREATE, ATOMIC), (first, ("transaction", [write(1, "a")], 0), ("atomic", [OK])))
@@ -92,7 +93,7 @@ def test_tables_outlive_connections(server):
 
 @seats(8)
 @at_both
-def test_a_thousand_connections(server, sanitizer):
+def test_a_thousand_connections(server: Server, sanitizer: Any) -> None:
     """A thousand connections, one after the other, leave no thread, no descriptor and no memory."""
     for connection in (held := [server.connect() for _ in range(7)]):
         assert connection.ask("begin")[0] == "tid", "begin"
@@ -112,7 +113,7 @@ def test_a_thousand_connections(server, sanitizer):
 
 @seats(64, files=20)
 @at_both
-def test_out_of_descriptors(server):
+def test_out_of_descriptors(server: Server) -> None:
     """If no connection can be accepted it prints a line, once and not at each attempt, and goes on as soon as one can."""
     connections = [server.connect() for _ in range(12)]
     time.sleep(2)
@@ -129,7 +130,7 @@ def test_out_of_descriptors(server):
 @seats(3, "--idle", "1")
 @at_both
 @pytest.mark.tries(3)
-def test_idle(server):
+def test_idle(server: Server) -> None:
     """An idle transaction ends, with its connection, and its locks are released. A session that waits for its lock, and a session without
     a transaction, is not idle, though nothing comes from either."""
     older, younger, mirror = server.connect(), server.connect(), server.connect()
@@ -152,7 +153,7 @@ def test_idle(server):
 
 @seats(3, "--idle", "60")
 @at_both
-def test_a_server_that_is_stopped(server):
+def test_a_server_that_is_stopped(server: Server) -> None:
     """A server that is stopped and goes on keeps its sessions and their transactions, with a time limit on their reads too: of a session from
     which a request is expected, and of one that waits for a lock."""
     older, younger, quiet = server.connect(), server.connect(), server.connect()
@@ -170,7 +171,7 @@ def test_a_server_that_is_stopped(server):
 @seats(2, "--idle", "1")
 @at_both
 @pytest.mark.tries(3)
-def test_a_reader_that_takes_nothing(server):
+def test_a_reader_that_takes_nothing(server: Server) -> None:
     """A client that reads nothing for so long is disconnected, so that another can be served."""
     reader, writer = server.connect(small=True), server.connect()
     script((reader, CREATE, ATOMIC), (reader, watch(), HERE_OK))
@@ -185,7 +186,7 @@ def test_a_reader_that_takes_nothing(server):
 
 @seats(2, "--log", "--outbox", "16")
 @at_both
-def test_a_log(server):
+def test_a_log(server: Server) -> None:
     """Each start, end and overflow of a session, and each refusal of a connection, has a line."""
     reader = server.connect(small=True)
     assert server.log() == "tabd: session 1 has started\n", "a start"
@@ -209,7 +210,7 @@ def test_a_log(server):
 
 @seats(3)
 @at_both
-def test_broken_off_during_a_wait(server):
+def test_broken_off_during_a_wait(server: Server) -> None:
     """A client that breaks off while it waits leaves at once, also if it has sent a further request, and its locks are released."""
     older, younger, third = server.connect(), server.connect(), server.connect()
     script((older, CREATE, ATOMIC), (older, "begin", ("tid", 1)), (older, write(2, "a"), OK))
@@ -227,7 +228,7 @@ def test_broken_off_during_a_wait(server):
 
 @seats(2)
 @at_both
-def test_half_closed_during_a_wait(server):
+def test_half_closed_during_a_wait(server: Server) -> None:
     """A client that half-closes while it waits, after a further request, has not broken off: it gets both replies."""
     older, younger = server.connect(), server.connect()
     script((older, CREATE, ATOMIC), (older, "begin", ("tid", 1)), (younger, "begin", ("tid", 2)), (younger, write(1, "b"), OK))
@@ -246,7 +247,7 @@ ABORT = ("abort", "no")
 ABORTED = ("aborted", "no")
 
 
-def held(server):
+def held(server: Server) -> Tuple[Any, ...]:
     """An older session with two levels, whose read waits for a younger's write, and the younger."""
     older, younger = server.connect(), server.connect()
     script((older, CREATE, ATOMIC), (older, "begin", ("tid", 1)), (older, "begin", ("tid", 1)))
@@ -258,7 +259,7 @@ def held(server):
 
 @seats(2, "--abort-waits")
 @at_both
-def test_an_abort_ends_a_wait(server):
+def test_an_abort_ends_a_wait(server: Server) -> None:
     """Only the abort is answered, and it ends one level. The dropped request is not queued any more; the next operation waits as before."""
     older, younger = held(server)
     script((older, ABORT, ABORTED))
@@ -275,7 +276,7 @@ def test_an_abort_ends_a_wait(server):
 
 @seats(2, "--abort-waits")
 @at_both
-def test_an_abort_in_the_same_piece(server):
+def test_an_abort_in_the_same_piece(server: Server) -> None:
     """In one piece, the abort after the operation ends its wait, and the requests after the abort are answered."""
     older, younger = held(server)
     script((older, ABORT, ABORTED))
@@ -289,7 +290,7 @@ def test_an_abort_in_the_same_piece(server):
 
 
 @seats(2, "--abort-waits")
-def test_others_are_answered_after_a_wait(server):
+def test_others_are_answered_after_a_wait(server: Server) -> None:
     """Another request after an operation that waits is answered after it, and so is an abort after that request."""
     older, younger = held(server)
     older.send(("read", "t", 2), ABORT)
@@ -300,7 +301,7 @@ def test_others_are_answered_after_a_wait(server):
 
 
 @seats(2)
-def test_an_abort_is_answered_after_a_wait(server):
+def test_an_abort_is_answered_after_a_wait(server: Server) -> None:
     """Without the option an abort is answered after the operation that waits."""
     older, younger = held(server)
     older.send(ABORT)
@@ -311,7 +312,7 @@ def test_an_abort_is_answered_after_a_wait(server):
 
 
 @seats(3, "--abort-waits")
-def test_an_abort_ends_a_one_shot(server):
+def test_an_abort_ends_a_one_shot(server: Server) -> None:
     """A one-shot that waits, for a younger transaction's lock after an older one's, is given up."""
     first, one_shot, younger = server.connect(), server.connect(), server.connect()
     script((first, CREATE, ATOMIC), (first, "begin", ("tid", 1)), (first, write(1, "a"), OK))
@@ -327,7 +328,7 @@ def test_an_abort_ends_a_one_shot(server):
 
 @seats(2, "--abort-waits")
 @at_both
-def test_an_abort_at_a_commit(server):
+def test_an_abort_at_a_commit(server: Server) -> None:
     """An abort comes about when the lock is free: the operation is answered, and the abort after it, or only the abort."""
     chance = random.Random(1)
     older, younger = server.connect(), server.connect()

@@ -8,7 +8,7 @@ import os
 import resource
 import socket
 import subprocess
-from typing import Any, List
+from typing import Any, Iterator, List, Tuple
 
 import pytest
 
@@ -69,14 +69,14 @@ WORDS: List[Any] = [
 ]
 
 
-def longest(size):
+def longest(size: int) -> Any:
     """A session that writes a record in a payload of so many bytes."""
     start = [(1, "join"), (1, ("create_table", "t", [])), (1, "begin")]
     bare = len(frame((1, ("write", ("t", 1, b""))))) - 4
     return frames(*start, (1, ("write", ("t", 1, bytes(size - bare)))))
 
 
-def commits(count):
+def commits(count: int) -> Tuple[Any, ...]:
     """As many transactions of one write, and what is answered."""
     asked: List[Term] = [(1, "join"), (1, ("create_table", "t", []))]
     told: List[Term] = [(1, "ok"), (1, ("atomic", "ok"))]
@@ -86,7 +86,7 @@ def commits(count):
     return frames(*asked), frames(*told)
 
 
-def begins(count):
+def begins(count: int) -> Tuple[Any, ...]:
     """As many transactions that are aborted at once: each has the next age."""
     asked, told = [(1, "join")], [(1, "ok")]  # type: List[Term], List[Term]
     for age in range(1, count + 1):
@@ -95,7 +95,7 @@ def begins(count):
     return frames(*asked), frames(*told)
 
 
-def used_up():
+def used_up() -> Tuple[Any, ...]:
     """The limits of levels and of operations, both reached: the reply to a begin is the first, and after a level has ended the other."""
     read, levels, operations = ("read", "t", 1), 16, 1000
     limit = {what: (1, ("error", ("system_limit", what))) for what in ("nesting", "operations")}
@@ -108,7 +108,7 @@ def used_up():
     return frames(*(asked for asked, _ in steps)), frames(*(told for _, told in steps))
 
 
-def watched(count):
+def watched(count: int) -> Tuple[Any, ...]:
     """64 sessions watch as many commits; all but the last take each batch, and the last gets its overflow."""
     sessions, last = range(1, 65), 64
     asked: List[Term] = [(session, "join") for session in sessions] + [(1, ("create_table", "t", []))]
@@ -119,7 +119,7 @@ def watched(count):
         for number in range(1, count + 1)
     ]
 
-    def take(session, item):
+    def take(session: int, item: Any) -> None:
         asked.append((session, "take"))
         told.append((session, item))
 
@@ -140,11 +140,11 @@ def watched(count):
     return frames(*asked), frames(*told)
 
 
-def payloads(*each):
+def payloads(*each: Any) -> Any:
     return b"".join(len(payload).to_bytes(4, "big") + payload for payload in each)
 
 
-def nested(levels):
+def nested(levels: int) -> Any:
     """A tuple in a tuple, with so many levels in all."""
     term: Term = ()
     for _ in range(levels - 1):
@@ -152,7 +152,7 @@ def nested(levels):
     return term
 
 
-def odd_payloads():
+def odd_payloads() -> Tuple[Any, ...]:
     """Payloads that are no request are refused: as no command if it is a term, however long, and as no term if it is none, however
     deep. The requests after them are served."""
     binary = b"\x83m" + (LONGEST - 6).to_bytes(4, "big") + bytes(LONGEST - 6)
@@ -162,18 +162,18 @@ def odd_payloads():
     return asked, frames(no_term, no_term, no_command, (1, no_command[1]), no_term, (1, "ok"))
 
 
-def run(program, words, **streams):
+def run(program: str, words: Any, **streams: Any) -> Tuple[Any, ...]:
     done = subprocess.run([program, *words], stderr=subprocess.PIPE, timeout=100, check=False, **streams)
     return done.returncode, done.stdout, done.stderr
 
 
-def announced():
+def announced() -> Tuple[Any, ...]:
     """Payloads whose counts announce far more than comes: 64 lists, tuples or maps of 65,535 members, each in the one before."""
     announcing = [b"\x83" + head * 64 for head in (b"\x6c\0\0\xff\xff", b"\x69\0\0\xff\xff", b"\x74\0\0\xff\xff")]
     return payloads(*announcing), frames(*[(0, ("error", "badterm"))] * len(announcing))
 
 
-def longest_map():
+def longest_map() -> Tuple[Any, ...]:
     """A request that is a map of as many integers as a payload holds, in falling order, each to the empty list."""
     head = b"\x83h\x02a\x01t"
     count = (LONGEST - len(head) - 4) // 6
@@ -181,12 +181,12 @@ def longest_map():
     return payloads(head + count.to_bytes(4, "big") + pairs), frames((1, ("error", "badcommand")))
 
 
-def is_told(wanted, found):
+def is_told(wanted: Any, found: Any) -> Any:
     return found.startswith(wanted) if wanted else not found
 
 
 @pytest.mark.parametrize("words, status, out, err", WORDS, ids=[" ".join(map(str, words)) or "none" for words, *_ in WORDS])
-def test_arguments(tabd, words, status, out, err):
+def test_arguments(tabd: str, words: Any, status: int, out: Any, err: Any) -> None:
     found = run(tabd, words, stdin=subprocess.DEVNULL, stdout=subprocess.PIPE)
     assert found[0] == status and is_told(out, found[1]) and is_told(err, found[2]), found
 
@@ -207,7 +207,7 @@ STREAMS = [
 
 
 @pytest.mark.parametrize("stream, status, err", STREAMS)
-def test_stream(tabd, stream, status, err):
+def test_stream(tabd: str, stream: Any, status: int, err: Any) -> None:
     given, told = stream()
     found = run(tabd, ["replay"], input=given, stdout=subprocess.PIPE)
     assert (found[0], found[2]) == (status, err)
@@ -216,7 +216,7 @@ def test_stream(tabd, stream, status, err):
 
 
 @pytest.mark.parametrize("stream, size", [(announced, LITTLE), (longest_map, FOR_A_MAP)], ids=["counts", "a map"])
-def test_in_little_memory(tabd, plain, stream, size):
+def test_in_little_memory(tabd: str, plain: None, stream: Any, size: int) -> None:
     """Counts reserve no more than the bytes that came, and a map little more than its pairs."""
     given, told = stream()
     limit = lambda: resource.setrlimit(resource.RLIMIT_AS, (size, size))
@@ -224,18 +224,18 @@ def test_in_little_memory(tabd, plain, stream, size):
 
 
 @pytest.fixture
-def full():
+def full() -> Iterator[Any]:
     """A device that has no room."""
     with open("/dev/full", "wb") as file:
         yield file
 
 
-def test_a_full_output(tabd, full):
+def test_a_full_output(tabd: str, full: Any) -> None:
     status, _, err = run(tabd, ["replay"], input=ASKED, stdout=full)
     assert (status, err) == (1, DEVICE)
 
 
-def test_an_output_that_no_one_reads(tabd):
+def test_an_output_that_no_one_reads(tabd: str) -> None:
     end, start = os.pipe()
     os.close(end)
     status, _, err = run(tabd, ["replay"], input=ASKED, stdout=start)
@@ -243,7 +243,7 @@ def test_an_output_that_no_one_reads(tabd):
     assert (status, err) == (1, DEVICE)
 
 
-def test_a_folder_as_input(tabd):
+def test_a_folder_as_input(tabd: str) -> None:
     folder = os.open("/", os.O_RDONLY)
     found = run(tabd, ["replay"], stdin=folder, stdout=subprocess.PIPE)
     os.close(folder)
@@ -251,26 +251,26 @@ def test_a_folder_as_input(tabd):
 
 
 @pytest.mark.parametrize("file, wanted", [(0, (1, b"", DEVICE)), (1, (1, b"", DEVICE)), (2, (3, frames((1, "ok")), b""))])
-def test_a_closed_stream(tabd, file, wanted):
+def test_a_closed_stream(tabd: str, file: Any, wanted: Any) -> None:
     """A standard stream is closed; errors can't be written, which changes no status."""
     found = run(tabd, ["replay"], input=ASKED + b"\0" * (file == 2), stdout=subprocess.PIPE, preexec_fn=lambda: os.close(file))
     assert found == wanted
 
 
-def test_errors_that_are_full(tabd, full):
+def test_errors_that_are_full(tabd: str, full: Any) -> None:
     done = subprocess.run([tabd, "replay"], input=ASKED + b"\0", stdout=subprocess.PIPE, stderr=full, timeout=100, check=False)
     assert (done.returncode, done.stdout) == (3, frames((1, "ok")))
 
 
 @pytest.mark.parametrize("more", [[], ["--log"]], ids=["", "--log"])
-def test_a_port_that_is_taken(tabd, more):
+def test_a_port_that_is_taken(tabd: str, more: List[str]) -> None:
     with socket.create_server(("127.0.0.1", 0)) as taken:
         words = ["serve", "--port", str(taken.getsockname()[1]), "--connections", "1", *more]
         wanted = (1, b"", DEVICE + b"tabd: Address already in use (os error 98)\n")
         assert run(tabd, words, stdin=subprocess.DEVNULL, stdout=subprocess.PIPE) == wanted
 
 
-def test_a_server_with_a_full_output(tabd, full):
+def test_a_server_with_a_full_output(tabd: str, full: Any) -> None:
     """It can't say where it listens."""
     words = ["serve", "--port", "0", "--connections", "1"]
     status, _, err = run(tabd, words, stdin=subprocess.DEVNULL, stdout=full)
@@ -278,7 +278,7 @@ def test_a_server_with_a_full_output(tabd, full):
 
 
 @pytest.mark.parametrize("file, reason", [(0, CLOSED), (1, CLOSED), (2, b"")])
-def test_a_server_with_a_closed_stream(tabd, file, reason):
+def test_a_server_with_a_closed_stream(tabd: str, file: Any, reason: Any) -> None:
     """Its number is one that a client's socket would get."""
     words = ["serve", "--port", "0", "--connections", "1"]
     found = run(tabd, words, stdin=subprocess.DEVNULL, stdout=subprocess.PIPE, preexec_fn=lambda: os.close(file))

@@ -6,6 +6,7 @@ it. Each case has a server of its own.
 """
 
 import resource
+from typing import Any, Callable, Iterator
 
 import pytest
 
@@ -42,12 +43,13 @@ from tests.lib.holding import (
     transaction,
     whole_reads,
 )
+from tests.lib.wire import Connection
 
 pytestmark = pytest.mark.serial
 
 
 @pytest.fixture
-def held(tabd, request, passed, plain):
+def held(tabd: str, request: pytest.FixtureRequest, passed: Callable[[], bool], plain: None) -> Iterator[Any]:
     """A server with the options of the mark `words`. After a case that passes it has printed nothing."""
     mark = request.node.get_closest_marker("words")
     with Held(tabd, *(mark.args if mark else ())) as server:
@@ -84,7 +86,7 @@ CASES = [
 
 
 @pytest.mark.parametrize("bound, case", CASES)
-def test_holds(held, bound, case):
+def test_holds(held: Any, bound: Any, case: Any) -> None:
     """At most so many kilobytes in addition to the table."""
     make, hold = case()
     alone, all_of = measured(held, make, hold)
@@ -96,7 +98,7 @@ QUEUED = 16
 ROUNDS, FIRST_ROUNDS, GROWTH = 40, 10, 8_000
 
 
-def test_the_last_lets_go(held):
+def test_the_last_lets_go(held: Any) -> None:
     """What a table, the journal and an outbox hold is given back with the last of them, whichever of the two that is."""
     client, reader, mirror = (held.connect() for _ in range(3))
     script((client, CREATE, ATOMIC))
@@ -108,7 +110,7 @@ def test_the_last_lets_go(held):
     assert growth <= GROWTH, f"{growth} kB more than after {FIRST_ROUNDS} rounds, {GROWTH} at most"
 
 
-def one_round(client, reader, mirror, record, outbox_first):
+def one_round(client: Connection, reader: Connection, mirror: Any, record: Any, outbox_first: Any) -> None:
     """A record is written, read, dumped, and sent as the old record of an event; then it is deleted."""
     read = ("read", "t", 1)
     script((client, ("transaction", [("write", record)], 0), ("atomic", [OK])))
@@ -124,7 +126,7 @@ def one_round(client, reader, mirror, record, outbox_first):
         empty_outbox(mirror, record)
 
 
-def empty_outbox(mirror, record):
+def empty_outbox(mirror: Any, record: Any) -> None:
     told = [mirror.receive() for _ in range(4 * QUEUED)]
     assert told.count(begin_mark([record])) == QUEUED, "dumps"
     holds("old records", [term[1][3] for term in told if term[0] == "mnesia_table_event"] == [[record]])
@@ -136,7 +138,7 @@ def empty_outbox(mirror, record):
 ROOM = 60_000_000
 
 
-def writes_until_refused(client):
+def writes_until_refused(client: Connection) -> Any:
     """Of a megabyte each, in the transaction that is open: how many are made."""
     for key in range(1, 1_000):
         reply = client.ask(("write", ("t", key, bytes(MEGABYTE))))
@@ -146,7 +148,7 @@ def writes_until_refused(client):
     raise AssertionError("no write was refused")
 
 
-def test_no_more_memory(held):
+def test_no_more_memory(held: Any) -> None:
     """A write without memory is refused. The abort of its transaction frees its memory: others are served, and nothing has
     changed. With more memory the write is done."""
     client, other = held.connect(), held.connect()

@@ -6,11 +6,12 @@ import random
 import socket
 import subprocess
 import time
+from typing import Any, Callable, Iterator
 
 import pytest
 
 from tests.lib.checks import ATOMIC, CREATE, HERE_OK, LIMIT, OK, script, side_by_side, waits, watch, write
-from tests.lib.servers import Metered
+from tests.lib.servers import Client, Metered, Server
 
 # A client of the page has so many seconds for its request; another is answered in less meanwhile.
 PATIENCE, MEANWHILE = 2, 1.5
@@ -18,7 +19,7 @@ TAKEN = "tabd: device\ntabd: Address already in use (os error 98)\n"
 
 
 @pytest.fixture
-def server(tabd, request, passed):
+def server(tabd: str, request: pytest.FixtureRequest, passed: Callable[[], bool]) -> Iterator[Any]:
     """A server with the options of the mark `words`, for four clients. After a case that passes it has printed nothing."""
     mark = request.node.get_closest_marker("words")
     with Metered(tabd, 4, *(mark.args if mark else ())) as server:
@@ -27,7 +28,7 @@ def server(tabd, request, passed):
             server.is_stopped()
 
 
-def test_each_is_counted(server):
+def test_each_is_counted(server: Metered) -> None:
     """One request after another, and the counters after each."""
     first, second, mirror = server.connect(), server.connect(), server.connect()
     script((first, CREATE, ATOMIC), (mirror, watch(), HERE_OK))
@@ -47,7 +48,7 @@ def test_each_is_counted(server):
     server.has(open_transactions=0, commits_total=3, aborts_total=3)
 
 
-def test_waits_and_restarts(server):
+def test_waits_and_restarts(server: Metered) -> None:
     older, younger = server.connect(), server.connect()
     script((older, CREATE, ATOMIC), (older, "begin", ("tid", 1)), (younger, "begin", ("tid", 2)), (younger, write(1, "b"), OK))
     older.send(("read", "t", 1))
@@ -65,7 +66,7 @@ def test_waits_and_restarts(server):
     server.has(sessions=1, open_transactions=0, oldest_transaction_seconds=0, aborts_total=2)
 
 
-def test_bytes(server):
+def test_bytes(server: Metered) -> None:
     """As the clients have them: of requests, and of replies and items, short and long."""
     first, mirror = server.connect(), server.connect()
     script((first, CREATE, ATOMIC), (mirror, watch(), HERE_OK))
@@ -82,7 +83,7 @@ def test_bytes(server):
 
 
 @pytest.mark.words("--outbox", "16")
-def test_overflows(server):
+def test_overflows(server: Metered) -> None:
     reader, writer = server.connect(small=True), server.connect()
     script((writer, CREATE, ATOMIC), (reader, watch(), HERE_OK))
     for number in range(1, 201):
@@ -93,13 +94,13 @@ def test_overflows(server):
     server.has(overflows_total=1, commits_total=200)
 
 
-def test_many_clients(server):
+def test_many_clients(server: Metered) -> None:
     """Four concurrent clients, at three records: each counter is the sum over their replies."""
     clients = [server.connect() for _ in range(4)]
     script((clients[0], CREATE, ATOMIC))
     sums = [dict(commits_total=0, aborts_total=0, given_up_total=0) for _ in clients]
 
-    def run(client, told, seed):
+    def run(client: Client, told: Any, seed: int) -> None:
         chance = random.Random(seed)
         for _ in range(150):
             if chance.random() < 0.4:
@@ -119,7 +120,7 @@ def test_many_clients(server):
     server.has(read_bytes_total=sum(client.sent for client in clients), written_bytes_total=sum(client.received for client in clients))
 
 
-def test_other_requests(server):
+def test_other_requests(server: Metered) -> None:
     """What is asked of another path, by another method, in pieces, too long, wrongly or not at all."""
     assert server.ask(path="/")[0] == 404, "another path"
     assert server.ask(method="POST")[0] == 405, "another method"
@@ -135,7 +136,7 @@ def test_other_requests(server):
     assert server.connect().ask("begin") == ("tid", 1), "another client"
 
 
-def test_head_and_query(server):
+def test_head_and_query(server: Metered) -> None:
     """A query changes nothing, and HEAD gets the head without the page."""
     assert server.ask(path="/metrics?name=a&b")[::2] == server.ask()[::2], "a query"
     assert server.ask(path="/metricsx")[0] == 404, "a longer path"
@@ -145,7 +146,7 @@ def test_head_and_query(server):
     assert (reply.status, reply.getheader("Content-Length"), reply.read()) == (200, str(len(server.ask()[2])), b""), "HEAD"
 
 
-def test_slow_clients(server):
+def test_slow_clients(server: Metered) -> None:
     """A client has two seconds for its whole request, and others are answered meanwhile."""
     slow = [socket.create_connection(("127.0.0.1", server.pages)) for _ in range(8)]
     begun = time.monotonic()
@@ -162,7 +163,7 @@ def test_slow_clients(server):
             assert client.recv(1) == b"", "its time is over"
 
 
-def test_each_table(server):
+def test_each_table(server: Metered) -> None:
     """The tables' names, as the text format escapes them, and how many records each has."""
     client = server.connect()
     for name in ("t", 'a "b"', "back\\slash", "line\nfeed", "\u00fc{}"):
@@ -175,7 +176,7 @@ def test_each_table(server):
     assert 'table="t"' not in server.samples()["table_records"], "a table that is deleted"
 
 
-def test_refused_connections(server):
+def test_refused_connections(server: Metered) -> None:
     """How many may be served at once, how many were refused, and the version."""
     served = [server.connect() for _ in range(4)]
     script(*((client, "begin", ("tid", age)) for age, client in enumerate(served, 1)))
@@ -185,7 +186,7 @@ def test_refused_connections(server):
     assert server.samples()["build_info"] == {'version="0.1.0"': 1}
 
 
-def test_idle_sessions(tabd):
+def test_idle_sessions(tabd: str) -> None:
     """Those that are ended since they were idle."""
     with Metered(tabd, 2, "--idle", "1") as server:
         idle, other = server.connect(), server.connect()
@@ -195,7 +196,7 @@ def test_idle_sessions(tabd):
         server.has(sessions_idle_ended_total=1, sessions=0, sessions_started_total=2)
 
 
-def test_ends_by_itself(tabd, serve):
+def test_ends_by_itself(tabd: str, serve: Callable[..., Server]) -> None:
     """Without `--forever` the page ends with the last connection; one whose port is taken doesn't start."""
     server = serve("--connections", "1", "--metrics", "0")
     pages = server.line().rsplit(":", 1)[1].strip()

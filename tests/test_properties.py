@@ -1,22 +1,24 @@
 """Properties, for examples that hypothesis generates, and shrinks if one fails.
 
 A replay is deterministic, also if sessions wait and are restarted, so each example is one run of some sessions in a program that goes on. Its
-replies are compared with a model (sessions.py). Each property has a fault planted in its model, which has to be found and shrunk. The examples
-are the same in each run, and few; `--examples N` makes up N others.
+replies are compared with those of a model (sessions.py). Each property has a fault planted in its model, which has to be found and shrunk. The
+examples are the same in each run, and few; `--examples N` makes up N others.
 """
 
 import itertools
-from typing import Any, Callable, Iterator, List, Set
+from typing import Any, Callable, Iterator, List, Set, Tuple
 
 import pytest
 import tabd as client
 from hypothesis import find, given, settings
 from hypothesis import strategies as st
 
+from tests.lib import planted
 from tests.lib.asking import Replay, Step
 from tests.lib.model import OPTIONS, whole
-from tests.lib.sessions import Outboxes, Session, Sessions, created, mirrored
-from tests.lib.strategies import KEYS, MEETING_STEPS, STEPS, TABLE_OPTIONS, WATCHERS, WATCHING, otherwise, terms
+from tests.lib.sessions import Book, mirrored
+from tests.lib.strategies import ANY_STEPS, DAMAGES, KEYS, MEETING_STEPS, STEPS, TABLE_OPTIONS, WATCHERS, WATCHING
+from tests.lib.strategies import damaged, encodings, otherwise, terms
 from tests.lib.wire import Map, Term, frame, spell
 
 ROOM = 3
@@ -84,6 +86,28 @@ def test_a_planted_map_is_found(replay: Replay) -> None:
     assert least(terms(), check) == [(0, 0), (1, 0)]
 
 
+def check_payload(replay: Replay, given: Any, model: Callable[[int], Book] = Book) -> None:
+    """What a payload is: no term, no request, or which."""
+    encoding, damage = given
+    replay.fresh(1)
+    one = b"\x83h\x02b" + replay.first.to_bytes(4, "big") + encoding
+    one = damaged(one, damage)
+    assert replay.told(len(one).to_bytes(4, "big") + one, 1) == replay.book(model).frames([bytes(4) + one])
+
+
+PAYLOADS = st.tuples(encodings(), DAMAGES)
+
+
+@given(given=PAYLOADS)
+def test_any_payload(replay: Replay, given: Any) -> None:
+    check_payload(replay, given)
+
+
+def test_a_planted_reader_is_found(replay: Replay) -> None:
+    """The least payload that is no request: the integer 0."""
+    assert least(PAYLOADS, lambda given: check_payload(replay, given, planted.NamesNoSession)) == (spell(0), None)
+
+
 # The Python client's codec.
 
 
@@ -140,19 +164,24 @@ def test_a_planted_order_is_found(replay: Replay) -> None:
     assert len(found) == 2
 
 
-# Transactions, of one session and of several that meet.
+# Transactions, of one session and of several that meet; the options of tables; subscriptions; and all of it together.
 
 
-def check_sessions(replay: Replay, count: int, asked: List[Step], model: Callable[..., Sessions] = Sessions) -> None:
-    """Checks the replies to steps after a begin of each session, and the tables after all have left."""
+def check_steps(replay: Replay, count: int, asked: List[Step], model: Callable[[int], Book] = Book) -> Tuple[Book, List[Term]]:
+    """Checks the replies to steps of so many sessions; returns the model after them, and the replies."""
     replay.fresh(count)
-    asked = [*((who, "begin") for who in range(count)), *asked]
+    found = replay.ask(asked)
+    book = replay.book(model)
+    for at, (who, request) in enumerate(asked):
+        assert found[at] == book.tell(replay.first + who, request), f"step {at}, session {who}: {request}"
+    return book, found
+
+
+def check_sessions(replay: Replay, count: int, asked: List[Step], model: Callable[[int], Book] = Book) -> None:
+    """Steps after a begin of each, and the tables after all have left, which one more session asks for."""
     looks = ("transaction", [("match_object", (tab, "_", "_", "_")) for tab in OPTIONS], 0)
-    found = replay.ask([*asked, *((who, "leave") for who in range(count)), (count, "join"), (count, looks)])
-    alone = model(count, replay.age, replay.number)
-    for at, (who, move) in enumerate(asked):
-        assert found[at] == alone.tell(who, move), f"step {at}, session {who}: {move}"
-    assert found[-1] == ("atomic", [whole(alone.tables[tab]) for tab in OPTIONS])
+    begun, left = [(who, "begin") for who in range(count)], [(who, "leave") for who in range(count)]
+    check_steps(replay, count + 1, [*begun, *asked, *left, (count, looks)], model)
 
 
 @given(asked=STEPS)
@@ -165,63 +194,16 @@ def test_sessions_that_meet(replay: Replay, asked: List[Step]) -> None:
     check_sessions(replay, 3, asked)
 
 
-class KeepsAChild(Sessions):
-    """A child's changes stay if it is aborted."""
-
-    def done(self, session: Session, move: Term) -> Term:
-        if len(self.alone(session).saved) > 1 and move[0] == "abort":
-            super().done(session, "commit")
-            return ("aborted", move[1])
-        return super().done(session, move)
-
-
-class LosesAReadLock(Sessions):
-    """A read is not kept from a write."""
-
-    def operation(self, session: Session, move: Term) -> Term:
-        reply = super().operation(session, move)
-        if move[0] == "read" and session.locks:
-            session.locks.pop()
-        return reply
-
-
-class RestartsForAYounger(Sessions):
-    """A transaction that meets a younger one does not wait."""
-
-    def waits(self, session: Session, opposed: List[int]) -> bool:
-        return False
-
-
-class GrantsARetry(Sessions):
-    """A retry looks at no one."""
-
-    def retry(self, session: Session) -> Term:
-        others, self.sessions = self.sessions, [session]
-        reply = super().retry(session)
-        self.sessions = others
-        return reply
-
-
-@pytest.mark.parametrize("model, most", [(KeepsAChild, 4), (LosesAReadLock, 2), (RestartsForAYounger, 2), (GrantsARetry, 3)])
-def test_a_planted_session_is_found(replay: Replay, model: Callable[..., Sessions], most: int) -> None:
-    """In at most so many steps after the begins."""
+@pytest.mark.parametrize("model, most", planted.MEETING.items())
+def test_a_planted_session_is_found(replay: Replay, model: Callable[[int], Book], most: int) -> None:
+    """In so many steps at most after the begins."""
     found = least(MEETING_STEPS, lambda asked: check_sessions(replay, 3, asked, model))
     assert len(found) <= most, found
 
 
-# The options of tables.
-
-
-def check_options(replay: Replay, options: List[Term], model: Callable[[str, List[Term]], Term] = created) -> None:
-    replay.fresh(1)
-    wanted = model("o", options)
-    infos = [(0, ("table_info", "o", what)) for what in ("type", "attributes", "index")]
-    _, reply, kind, names, index = replay.ask([(0, ("delete_table", "o")), (0, ("create_table", "o", options)), *infos])
-    if wanted[0] == "bad_def":
-        assert reply == ("aborted", wanted)
-    else:
-        assert reply == ("atomic", "ok")
-        assert (kind, names, sorted(index)) == wanted
+def check_options(replay: Replay, options: List[Term], model: Callable[[int], Book] = Book) -> None:
+    infos = [("table_info", "o", what) for what in ("type", "attributes", "index", "size")]
+    check_steps(replay, 1, [(0, request) for request in (("create_table", "o", options), *infos, ("delete_table", "o"))], model)
 
 
 @given(options=TABLE_OPTIONS)
@@ -230,30 +212,17 @@ def test_options(replay: Replay, options: List[Term]) -> None:
 
 
 def test_a_planted_option_is_found(replay: Replay) -> None:
-    """That the key may have an index."""
-
-    def planted(tab: str, options: List[Term]) -> Term:
-        found = created(tab, options)
-        return ("set", ["key", "val"], [2]) if found == ("bad_def", tab, ("index", 2)) else found
-
-    assert least(TABLE_OPTIONS, lambda options: check_options(replay, options, planted)) == [("index", [2])]
+    assert least(TABLE_OPTIONS, lambda options: check_options(replay, options, planted.IndexesTheKey)) == [("index", [2])]
 
 
-# Subscriptions: of each session its slice of the commits, through an outbox of few items.
-
-
-def check_outboxes(replay: Replay, asked: List[Step], model: Callable[..., Outboxes] = Outboxes) -> None:
-    """Checks the replies; and a mirror that uses only the items ends with the tables."""
-    replay.fresh(WATCHERS + 1)
+def check_outboxes(replay: Replay, asked: List[Step], model: Callable[[int], Book] = Book) -> None:
+    """Of each session its slice of the commits, through an outbox of few items; and a mirror, which follows only these, ends with the tables."""
     asked = [*asked, *[(who, "take") for who in range(1, WATCHERS + 1) for _ in range(ROOM + 2)]]
-    found = replay.ask(asked)
-    outboxes = model(WATCHERS, ROOM, replay.age, replay.number)
-    for at, (who, request) in enumerate(asked):
-        assert found[at] == outboxes.tell(who, request), f"step {at}, session {who}: {request}"
+    book, found = check_steps(replay, WATCHERS + 1, asked, model)
     for who in range(1, WATCHERS + 1):
-        items = [reply for (other, request), reply in zip(asked, found) if (other, request) == (who, "take") and reply != "empty"]
+        items = [reply for step, reply in zip(asked, found) if step == (who, "take") and reply != "empty"]
         for tab, copy in mirrored(items).items():
-            assert copy == sorted(whole(outboxes.tables[tab]), key=repr), f"a copy of {tab}"
+            assert copy == sorted(whole(book.tables[tab]), key=repr), f"a copy of {tab}"
 
 
 @given(asked=WATCHING)
@@ -261,25 +230,15 @@ def test_subscriptions_and_mirrors(replay: Replay, asked: List[Step]) -> None:
     check_outboxes(replay, asked)
 
 
-class NumbersAnOverflowLate(Outboxes):
-    """Its number is that of the commit after the first whose events were lost."""
-
-    def put(self, watcher: Any, item: Term, number: int) -> None:
-        super().put(watcher, item, number + (item[0] == "batch"))
-
-
-class KeepsADeletedTable(Outboxes):
-    """No marker says that a table is gone."""
-
-    def put(self, watcher: Any, item: Term, number: int) -> None:
-        if item[0] != "mnesia_table_end":
-            super().put(watcher, item, number)
-
-
-@pytest.mark.parametrize("model, most", [(NumbersAnOverflowLate, ROOM + 1), (KeepsADeletedTable, 2)])
-def test_a_planted_outbox_is_found(replay: Replay, model: Callable[..., Outboxes], most: int) -> None:
+@pytest.mark.parametrize("model, most", planted.WATCHING.items())
+def test_a_planted_outbox_is_found(replay: Replay, model: Callable[[int], Book], most: int) -> None:
     found = least(WATCHING, lambda asked: check_outboxes(replay, asked, model))
     assert len(found) <= most, found
+
+
+@given(asked=ANY_STEPS)
+def test_all_together(replay: Replay, asked: List[Step]) -> None:
+    check_steps(replay, 3, asked)
 
 
 # The splitter: frames that come in any pieces.

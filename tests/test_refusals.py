@@ -13,13 +13,14 @@ each stream.
 import collections
 import itertools
 import time
-from typing import Counter, List
+from typing import Any, Callable, Counter, List
 
 import pytest
 
 from tests.lib.checks import ATOMIC, CREATE
 from tests.lib.one_shots import ONE_SHOTS, PROBED
 from tests.lib.refusing import NO_MEMORY, RefusedReplay, built, is_no_memory
+from tests.lib.servers import Server
 from tests.lib.streams import streams
 from tests.lib.wire import frame
 
@@ -43,7 +44,7 @@ class OneShot:
 
     words = ["replay"]
 
-    def __init__(self, name, before, request, reply, after):
+    def __init__(self, name: str, before: Any, request: Any, reply: Any, after: Any) -> None:
         self.name, self.before, self.request, self.reply, self.after = name, before, request, reply, after
         steps = [*before, (1, request, reply)]
         self.given = [frame((session, asked)) for session, asked, _ in steps]
@@ -55,12 +56,12 @@ SHOTS = list(itertools.starmap(OneShot, ONE_SHOTS))
 
 
 @pytest.fixture(scope="session")
-def library(tmp_path_factory):
+def library(tmp_path_factory: pytest.TempPathFactory) -> Any:
     return built("refusing_replay", tmp_path_factory.mktemp("refusing"))
 
 
 @pytest.fixture(scope="session")
-def replay(tabd, library):
+def replay(tabd: str, library: str) -> Any:
     """Starts a replay with some options whose nth allocation is refused."""
     start = lambda words, nth, *more, **wrong: RefusedReplay(tabd, library, words, nth, *more, **wrong)
     with start(["replay"], 1) as run:
@@ -70,7 +71,7 @@ def replay(tabd, library):
     return start
 
 
-def end_of(run, case, is_whole):
+def end_of(run: Any, case: Any, is_whole: Any) -> Any:
     """How a run ended: `whole`, if all frames of the case were answered, or the refused allocation: at the `start`, for a
     `frame`; `none` if nothing was refused."""
     where, status, err = run.ended()
@@ -89,7 +90,7 @@ def end_of(run, case, is_whole):
     return "frame"
 
 
-def count_before(replay, stream):
+def count_before(replay: Any, stream: Any) -> Any:
     """How many allocations are made before a frame is read."""
     with replay(stream.words, 0) as run:
         for given, wanted in zip(stream.given, stream.told):
@@ -99,13 +100,13 @@ def count_before(replay, stream):
     return dict(zip(where[::2], where[1::2]))[0]
 
 
-def row_end(run, stream):
+def row_end(run: Any, stream: Any) -> Any:
     """How the run of a stream ended."""
     is_whole = all(run.asked(given, wanted) for given, wanted in zip(stream.given, stream.told))
     return end_of(run, stream, is_whole)
 
 
-def one_shot_end(run, case):
+def one_shot_end(run: Any, case: Any) -> Any:
     """How the run of a one-shot ended, if memory was refused only to the one-shot."""
     for given, wanted in zip(case.given[:-1], case.told):
         assert run.ask(given) == wanted, f"before it frame {run.answered}"
@@ -118,7 +119,7 @@ def one_shot_end(run, case):
     return end_of(run, case, told is not None)
 
 
-def probe(run, case):
+def probe(run: Any, case: Any) -> None:
     """It left no level, no lock, no request and no change; sent again it has its reply."""
     # No reply has the age that it used up.
     ages = 1 + sum(asked == "begin" or asked[0] == "transaction" for _, asked, _ in case.before)
@@ -131,7 +132,7 @@ def probe(run, case):
         assert told == frame((session, wanted)), f"the reply to {asked} after it is {told}, wanted {wanted}"
 
 
-def faults_of(replay, does, stream, start, **wrong):
+def faults_of(replay: Any, does: Any, stream: Any, start: int, **wrong: Any) -> Any:
     """The faults, for each allocation in turn; prints how often the runs ended in each way."""
     ends: Counter[str] = collections.Counter()
     faults: List[str] = []
@@ -148,35 +149,35 @@ def faults_of(replay, does, stream, start, **wrong):
     return faults
 
 
-def test_the_start(replay):
+def test_the_start(replay: Any) -> None:
     assert not faults_of(replay, row_end, ROWS[0], 0)
 
 
 @pytest.mark.parametrize("stream", ROWS, ids=[stream.name for stream in ROWS])
-def test_stream(replay, stream):
+def test_stream(replay: Any, stream: Any) -> None:
     assert not faults_of(replay, row_end, stream, 1)[:5]
 
 
 @pytest.mark.parametrize("case", SHOTS, ids=[case.name for case in SHOTS])
-def test_one_shot(replay, case):
+def test_one_shot(replay: Any, case: Any) -> None:
     assert not faults_of(replay, one_shot_end, case, len(case.given))[:5]
 
 
 @pytest.mark.wrong
 @pytest.mark.parametrize("stream", ROWS, ids=[stream.name for stream in ROWS])
 @pytest.mark.parametrize("wrong", WRONG)
-def test_a_wrong_program_is_found(replay, wrong, stream):
+def test_a_wrong_program_is_found(replay: Any, wrong: Any, stream: Any) -> None:
     assert faults_of(replay, row_end, stream, 1, **wrong)
 
 
 @pytest.mark.wrong
 @pytest.mark.parametrize("case", SHOTS, ids=[case.name for case in SHOTS])
 @pytest.mark.parametrize("wrong", WRONG)
-def test_a_wrong_program_is_found_by_a_one_shot(replay, wrong, case):
+def test_a_wrong_program_is_found_by_a_one_shot(replay: Any, wrong: Any, case: Any) -> None:
     assert faults_of(replay, one_shot_end, case, len(case.given), **wrong)
 
 
-def test_a_served_frame(replay, serve, library):
+def test_a_served_frame(replay: Any, serve: Callable[..., Server], library: str) -> None:
     """A frame on a connection for which no memory is found, cut in several ways, between two that find some."""
     connection = serve("--connections", "1", env={"LD_PRELOAD": library, "LARGEST": "300000"}).connect()
     short, long = frame(("read", "t", 1)), frame(("write", ("t", 1, bytes(900_000))))

@@ -9,6 +9,7 @@ with one refusal: `rt try --test --fail-alloc N -- refused` in crates/tab_book_t
 import itertools
 import os
 import subprocess
+from typing import Any, Tuple
 
 import pytest
 
@@ -20,7 +21,7 @@ NO_BOOK = b"no book"
 FEWEST = 100
 
 
-def run(tests, library, nth, report):
+def run(tests: Any, library: str, nth: int, report: Any) -> Tuple[Any, ...]:
     """The test's status, its output, and whether its nth allocation was refused, which the library writes to the report."""
     report.truncate(0)
     env = {"LD_PRELOAD": library, "NTH": str(nth), "REPORT": str(report.fileno())}
@@ -30,7 +31,7 @@ def run(tests, library, nth, report):
     return done.returncode, done.stdout, os.fstat(report.fileno()).st_size > 0
 
 
-def test_refused_steps(tabd, tmp_path):
+def test_refused_steps(tabd: str, tmp_path: Any) -> None:
     tests = os.path.join(os.path.dirname(tabd), "../../tab_book_tests/out/tab_book_tests_tests")
     if not os.path.exists(tests):
         pytest.skip(f"{tests} is not built: rt test in crates/tab_book_tests builds it")

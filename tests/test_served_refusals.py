@@ -13,12 +13,13 @@ import select
 import subprocess
 import sys
 import time
-from typing import Any, Counter, List
+from typing import Any, Callable, Counter, List
 
 import pytest
 
 from tests.lib.checks import ATOMIC, HERE_OK, MARK, OK, event, same, watch, write
 from tests.lib.refusing import NO_MEMORY, RefusedServer, built
+from tests.lib.wire import Connection
 
 # The frame that is read takes the first allocations: the bytes, the payload, and the list of the frames.
 OF_A_FRAME = 3
@@ -37,7 +38,7 @@ class Closed(Exception):
     """A connection was closed, after so many complete frames of replies."""
 
 
-def received(connection):
+def received(connection: Connection) -> Any:
     try:
         return connection.receive()
     except (ConnectionError, ValueError):
@@ -46,7 +47,7 @@ def received(connection):
         raise Closed from None
 
 
-def asked(connection, request):
+def asked(connection: Connection, request: Any) -> Any:
     """The reply; events before it are kept."""
     try:
         connection.send(request)
@@ -55,13 +56,13 @@ def asked(connection, request):
     return replied(connection)
 
 
-def replied(connection):
+def replied(connection: Connection) -> Any:
     while (term := received(connection))[0] != "reply":
         connection.events.append(term)
     return term[1]
 
 
-def soon(what, connection, request, wanted):
+def soon(what: str, connection: Connection, request: Any, wanted: Any) -> None:
     """Waits for this reply: a session needs a moment to leave."""
     end = time.monotonic() + PATIENCE
     while (found := asked(connection, request)) != wanted and time.monotonic() < end:
@@ -69,18 +70,18 @@ def soon(what, connection, request, wanted):
     same(what, found, wanted)
 
 
-def script(*steps):
+def script(*steps: Any) -> None:
     for connection, request, reply in steps:
         same(f"{request}", asked(connection, request), reply)
 
 
-def free(connection, table):
+def free(connection: Connection, table: Any) -> None:
     """No transaction has or awaits a lock in the table."""
     soon(f"an index of {table}", connection, ("add_table_index", table, "val"), ATOMIC)
     soon(f"no index of {table}", connection, ("del_table_index", table, "val"), ATOMIC)
 
 
-def probe(connection):
+def probe(connection: Connection) -> None:
     """It writes the key, and changes both tables."""
     same("begin", asked(connection, "begin")[0], "tid")
     for table in ("u", "t"):
@@ -95,11 +96,13 @@ class Case:
     """What connections 1 and 2 are asked before, a request of connection 1 and its reply; whether it is asked in a transaction,
     whether it waits for the transaction of connection 2, and whether it puts a marker, for which it may be closed."""
 
-    def __init__(self, name, before, request, reply, inside=False, waits=False, marks=False, words=()):
+    def __init__(
+        self, name: str, before: Any, request: Any, reply: Any, inside: bool = False, waits: bool = False, marks: bool = False, words: Any = ()
+    ) -> None:
         self.name, self.before, self.request, self.reply, self.words = name, before, request, reply, words
         self.inside, self.waits, self.marks = inside, waits, marks
 
-    def told(self, first, second):
+    def told(self, first: Any, second: Any) -> Any:
         """The reply. The second commits if the first waits for it; this may be refused too."""
         first.send(self.request)
         if self.waits and not select.select([first.socket], [], [], QUIET)[0]:
@@ -113,7 +116,7 @@ class Case:
         except Closed:
             return "closed"
 
-    def again(self, first, second, other):
+    def again(self, first: Any, second: Any, other: Any) -> None:
         """After `no_memory` nothing is left of it. Sent again it gets its reply."""
         if self.waits:
             # It waits again if the second's transaction is still open, and ends.
@@ -130,7 +133,7 @@ class Case:
             # No reply has the age that it used up.
             same("again", asked(first, self.request)[0], self.reply[0])
 
-    def run(self, serve, nth):
+    def run(self, serve: Callable[..., RefusedServer], nth: int) -> Any:
         with serve("--connections", "3", *self.words) as server:
             first, second, other = connections = [server.connect() for _ in range(3)]
             script(*((other, create, ATOMIC) for create in CREATES), (first, "commit", ("error", "no_transaction")))
@@ -152,7 +155,7 @@ class Case:
             server.ends()
             return end
 
-    def judged(self, told, nth):
+    def judged(self, told: Any, nth: int) -> str:
         if told == NO_MEMORY:
             return "replied no_memory"
         if told == self.reply:
@@ -163,7 +166,7 @@ class Case:
             return "were closed for a reply's frame"
         raise AssertionError(f"replied {told}, wanted {self.reply}")
 
-    def counted(self, serve):
+    def counted(self, serve: Callable[..., RefusedServer]) -> None:
         """How many allocations it takes if none is refused. A thread of a connection that begins late takes some more."""
         self.all = sys.maxsize
         for _ in range(COUNTS):
@@ -176,13 +179,13 @@ class Watched:
 
     count, value = 6, b"v" * 3000
 
-    def __init__(self, name, before=(), *words):
+    def __init__(self, name: str, before: Any = (), *words: str) -> None:
         self.name, self.before, self.words, self.number = name, before, words, len(before) + 1
 
-    def counted(self, serve):
+    def counted(self, serve: Callable[..., RefusedServer]) -> None:
         pass
 
-    def run(self, serve, nth):
+    def run(self, serve: Callable[..., RefusedServer], nth: int) -> Any:
         with serve("--connections", "2", *self.words) as server:
             first, second = server.connect(), server.connect()
             script(*((second, create, ATOMIC) for create in CREATES), (first, watch(), HERE_OK))
@@ -208,7 +211,7 @@ class Watched:
             server.ends()
             return end if made >= nth else "none"
 
-    def told(self, first, told):
+    def told(self, first: Any, told: Any) -> str:
         """How the first received the committed events: if it is closed, a beginning of them."""
         if told == NO_MEMORY:
             return "replied no_memory"
@@ -220,7 +223,7 @@ class Watched:
                 return "were closed for an event"
         return "got its reply"
 
-    def next_event(self, first, second):
+    def next_event(self, first: Any, second: Any) -> None:
         """The next frame of the first is the event of the next commit."""
         script((second, ("transaction", [write("next", 0)], 0), ("atomic", [OK])))
         same("the next event", received(first), event("next", 0, self.number + 1))
@@ -236,13 +239,13 @@ class Joins:
     """There is no memory or no thread for a connection: it is closed with no frame, and counts among those that are served; with
     `--forever` another can be served again."""
 
-    def __init__(self, name, *words):
+    def __init__(self, name: str, *words: str) -> None:
         self.name, self.words = name, words
 
-    def counted(self, serve):
+    def counted(self, serve: Callable[..., RefusedServer]) -> None:
         pass
 
-    def run(self, serve, nth):
+    def run(self, serve: Callable[..., RefusedServer], nth: int) -> Any:
         with serve("--connections", "2", *self.words) as server:
             second = server.connect()
             script(*((second, create, ATOMIC) for create in CREATES))
@@ -260,7 +263,7 @@ class Joins:
                 server.ends()
             return end if made >= nth else "none"
 
-    def joined(self, first):
+    def joined(self, first: Any) -> str:
         try:
             told = asked(first, "begin")
             if told == NO_MEMORY:
@@ -270,7 +273,7 @@ class Joins:
             return "were closed for a connection"
         return "got its reply"
 
-    def seat_is_free(self, server):
+    def seat_is_free(self, server: RefusedServer) -> None:
         end = time.monotonic() + PATIENCE
         while time.monotonic() < end:
             other = server.connect()
@@ -342,7 +345,7 @@ CASES: List[Any] = [
 
 
 @pytest.fixture(scope="session")
-def refused(tabd, tmp_path_factory):
+def refused(tabd: str, tmp_path_factory: pytest.TempPathFactory) -> Any:
     """Starts a server with some options whose allocations can be refused."""
     library = built("refusing_server", tmp_path_factory.mktemp("refusing"))
     serve = lambda *words, **options: RefusedServer(tabd, library, *words, **options)
@@ -355,7 +358,7 @@ def refused(tabd, tmp_path_factory):
 
 
 @pytest.mark.parametrize("case", CASES, ids=[case.name for case in CASES])
-def test_refused(refused, case):
+def test_refused(refused: Any, case: Any) -> None:
     """Refuses each allocation in turn; prints how often the runs ended in each way."""
     ends: Counter[str] = collections.Counter()
     faults: List[str] = []
@@ -371,7 +374,7 @@ def test_refused(refused, case):
     assert not faults
 
 
-def test_the_default_journal(refused):
+def test_the_default_journal(refused: Any) -> None:
     """A commit that folds takes more allocations. The table's entry is before the commits, so as many fold nothing as the
     journal has entries, but one."""
     made = []
@@ -386,7 +389,7 @@ def test_the_default_journal(refused):
 
 
 @pytest.mark.parametrize("words", [(), ("--metrics", "0")], ids=["", "--metrics"])
-def test_a_start(refused, words):
+def test_a_start(refused: Any, words: List[str]) -> None:
     """A start that is refused any allocation or thread says where it listens and serves, or fails and does not say it."""
     for nth in itertools.count(1):
         try:

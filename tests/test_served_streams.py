@@ -6,11 +6,14 @@ answered `waiting` has the reply of the stream's `retry`. Streams that a connect
 that isn't joined, of an outbox that overflows, of requests while one waits, and of payloads that are no request.
 """
 
+from typing import Any, Callable
+
 import pytest
 
 from tests.lib.checks import waits
+from tests.lib.servers import Server
 from tests.lib.streams import streams
-from tests.lib.wire import term_of
+from tests.lib.wire import Connection, term_of
 
 # With fewer streams than these one is skipped that was not skipped before.
 LEAST = 38
@@ -18,7 +21,7 @@ LEAST = 38
 LEFT_OUT = [("error", word) for word in ("badsession", "waiting", "not_waiting", "overflow_untold")]
 
 
-def steps_of(stream):
+def steps_of(stream: Any) -> Any:
     """The session, request and reply of each frame; None if a payload is no request, or a reply is one of LEFT_OUT."""
     steps = []
     for given, told in zip(stream.given, stream.told):
@@ -36,10 +39,10 @@ def steps_of(stream):
 class Session:
     """A connection, and whether an operation waits on it."""
 
-    def __init__(self, connection):
+    def __init__(self, connection: Connection) -> None:
         self.connection, self.waits = connection, False
 
-    def step(self, request, reply):
+    def step(self, request: Any, reply: Any) -> None:
         if request == "take":
             if reply != "empty":
                 assert self.connection.event() == reply, "an item"
@@ -56,12 +59,12 @@ class Session:
 ASKED = [(stream.name, steps) for stream in streams() if (steps := steps_of(stream)) and any(step[1] == "join" for step in steps)]
 
 
-def test_so_many_streams_are_asked():
+def test_so_many_streams_are_asked() -> None:
     assert len(ASKED) >= LEAST
 
 
 @pytest.mark.parametrize("steps", [steps for _, steps in ASKED], ids=[name for name, _ in ASKED])
-def test_served(serve, steps):
+def test_served(serve: Callable[..., Server], steps: Any) -> None:
     joined = [session for session, request, _ in steps if request == "join"]
     server = serve("--connections", str(len(joined)), "--batches")
     sessions = {}

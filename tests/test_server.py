@@ -11,40 +11,41 @@ import resource
 import select
 import threading
 import time
-from typing import Any, List
+from typing import Any, Callable, List, Tuple
 
 import pytest
 
 from tests.lib.checks import ATOMIC, CREATE, END, HERE_OK, MARK, OK, QUIET, event, holds, script, side_by_side, waits, watch, write
-from tests.lib.wire import frame
+from tests.lib.servers import Server
+from tests.lib.wire import Connection, frame
 
 served = pytest.mark.served
 
 
 # A commit that writes the key of its number, which is its age too, as it is sent.
-def alone(number, value):
+def alone(number: int, value: Any) -> Any:
     return event(number, value, number)
 
 
-def in_batch(number, value):
+def in_batch(number: int, value: Any) -> Tuple[Any, ...]:
     return ("batch", number, [event(number, value, number)])
 
 
-def by_events(number, events):
+def by_events(number: int, events: Any) -> Any:
     return events
 
 
-def by_commits(number, events):
+def by_commits(number: int, events: Any) -> List[Any]:
     return [("batch", number, events)]
 
 
-def too_long(connection):
+def too_long(connection: Connection) -> None:
     connection.socket.sendall((1_048_577).to_bytes(4, "big"))
     assert connection.receive() == ("reply", ("error", "badterm")), "too long"
     assert connection.stream.read() == b"", "its end"
 
 
-def too_long_after_others(connection):
+def too_long_after_others(connection: Connection) -> None:
     """In one piece, the requests before it are answered, and those after it are not."""
     connection.socket.sendall(frame(("read", "t", 2)) + (1_048_577).to_bytes(4, "big") + frame("commit"))
     assert connection.receive() == ("reply", []), "before it"
@@ -52,14 +53,14 @@ def too_long_after_others(connection):
     assert connection.stream.read() == b"", "its end"
 
 
-def cut(connection):
+def cut(connection: Connection) -> None:
     """Its stream ends inside a frame: there is no reply, and the stream the other way ends too."""
     connection.socket.sendall(frame("commit")[:-1])
     connection.half_close()
     assert connection.stream.read() == b"", "its end"
 
 
-def unread(connection):
+def unread(connection: Connection) -> None:
     """It reads nothing until a reply can't be written, and is gone then."""
     script((connection, write(2, bytes(500_000)), OK))
     connection.socket.sendall(frame(("read", "t", 2)) * 40)
@@ -68,7 +69,7 @@ def unread(connection):
 
 
 @served(3)
-def test_others_go_on(clients):
+def test_others_go_on(clients: List[Connection]) -> None:
     """Sessions go on while another's transaction is open, and a watching session gets the events of their commits."""
     first, second, third = clients
     script(
@@ -106,7 +107,7 @@ def test_others_go_on(clients):
     ],
     ids=["by an abort", "by a commit", "by an end", "by a broken connection"],
 )
-def test_woken(clients, end, reply, found):
+def test_woken(clients: List[Connection], end: Any, reply: Any, found: Any) -> None:
     """A session that waits gets the record as soon as the other's transaction ends, in each way."""
     older, younger = clients
     script(
@@ -129,7 +130,7 @@ def test_woken(clients, end, reply, found):
 
 
 @served(3)
-def test_a_session_leaves_a_queue(clients):
+def test_a_session_leaves_a_queue(clients: List[Connection]) -> None:
     """A queued request is dropped with its session: the request after it is woken."""
     first, second, third = clients
     script(
@@ -155,17 +156,17 @@ def test_a_session_leaves_a_queue(clients):
         pytest.param(16, id="sixteen, journal of 16", marks=served(16, "--journal", "16")),
     ],
 )
-def test_raise(clients, count):
+def test_raise(clients: List[Connection], count: int) -> None:
     """A hot record is raised on each connection; each raise counts once, and has a number of its own."""
     each = 100 // count
     total = each * count
     numbers: List[int] = []
 
-    def attempt(connection):
+    def attempt(connection: Connection) -> bool:
         found = connection.ask(("wread", ("t", 1)))
         return found != "restart" and connection.ask(write(1, found[0][2] + 1)) == OK
 
-    def raise_all(connection):
+    def raise_all(connection: Connection) -> None:
         for turn in range(each):
             connection.ask("begin")
             while not attempt(connection):
@@ -181,7 +182,7 @@ def test_raise(clients, count):
     assert first.ask(("transaction", [("read", "t", 1)], 0)) == ("atomic", [[("t", 1, total)]]), "value"
 
 
-def copy_of(log):
+def copy_of(log: Any) -> Any:
     """The table as events leave it that begins with record 2."""
     copy = {2: 2}
     for _, (word, record, _) in log:
@@ -194,20 +195,20 @@ def copy_of(log):
 
 # No session may overflow, also on a busy machine.
 @served(4, "--outbox", "1024")
-def test_two_mirrors(clients):
+def test_two_mirrors(clients: List[Connection]) -> None:
     """Two write and delete; each mirror gets the same events, and ends with the table's records."""
     one, other, *mirrors = clients
     each = 60
     logs: List[Any] = []
 
-    def commit_all(connection, seed):
+    def commit_all(connection: Connection, seed: int) -> None:
         chance = random.Random(seed)
         for turn in range(each):
             key = chance.randrange(5)
             what = ("delete", ("t", key)) if turn % 5 == 0 else write(key, chance.randrange(1000))
             assert connection.ask(("transaction", [what], 1000))[0] == "atomic", "commit"
 
-    def follow(mirror, log):
+    def follow(mirror: Any, log: Any) -> None:
         while not log or log[-1][1][:2] != ("write", ("t", "last", 0)):
             log.append(mirror.event())
 
@@ -237,7 +238,7 @@ def test_two_mirrors(clients):
         pytest.param(in_batch, id="of batches", marks=served(3, "--outbox", "16", "--batches", small=True)),
     ],
 )
-def test_a_slow_reader(clients, sent):
+def test_a_slow_reader(clients: List[Connection], sent: Any) -> None:
     """A client that reads nothing gets an overflow after the events that were sent; the other gets each commit, and no one waits."""
     idle, writer, reader = clients
     value, count = b"v" * 4000, 200
@@ -261,7 +262,7 @@ def test_a_slow_reader(clients, sent):
 
 
 @served(2, "--outbox", "1")
-def test_an_outbox_of_one_item(clients):
+def test_an_outbox_of_one_item(clients: List[Connection]) -> None:
     """With an outbox of one item, a client overflows if commits come faster than it reads, and gets the overflow also if nothing was sent before."""
     watcher, writer = clients
     script((writer, CREATE, ATOMIC))
@@ -290,7 +291,7 @@ def test_an_outbox_of_one_item(clients):
         pytest.param(64, id="by default", marks=served(2)),
     ],
 )
-def test_an_outbox(clients, size):
+def test_an_outbox(clients: List[Connection], size: int) -> None:
     """After a commit that is being sent an outbox has room for so many items, and the next one overflows. The commit's end is not sent before
     its beginning is read, as no socket has room for 16 MB."""
     idle, writer = clients
@@ -307,7 +308,7 @@ def test_an_outbox(clients, size):
 
 
 @served(2, "--outbox", "1024")
-def test_during_long_replies(clients):
+def test_during_long_replies(clients: List[Connection]) -> None:
     """A reply that is longer than a socket's buffer stays in one piece, while the events of others' commits go to the same connection."""
     reader, writer = clients
     each, rows = 20, [("u", key, bytes([key]) * 200_000) for key in range(40)]
@@ -337,10 +338,10 @@ def test_during_long_replies(clients):
         pytest.param(by_commits, id="in batches", marks=served(2, "--batches")),
     ],
 )
-def test_long_items(clients, sent):
+def test_long_items(clients: List[Connection], sent: Any) -> Any:
     """A dump, and commits with long old records, come whole, in order with short commits. All are made before the dump is read, which has
     no end before that, so they follow it at once."""
-    def changed(number, changes):
+    def changed(number: int, changes: Any) -> Any:
         return sent(number, [("mnesia_table_event", ("write", "t", ("t", key, 0), old, ("tid", number))) for key, old in changes])
     mirror, writer = clients
     rows, detailed = [("t", key, bytes([key]) * 1_000_000) for key in range(16)], ("table", "t", "detailed")
@@ -363,7 +364,7 @@ def test_long_items(clients, sent):
 
 
 @served(3, "--batches")
-def test_batches(clients):
+def test_batches(clients: List[Connection]) -> None:
     """A commit's events come in one frame, with its number, if it changed a table that the session watches; markers are the same."""
     one, other, mirror = clients
     script(
@@ -387,20 +388,20 @@ def test_batches(clients):
 
 
 @served(5, "--batches", "--outbox", "1024")
-def test_four_move_amounts(clients):
+def test_four_move_amounts(clients: List[Connection]) -> None:
     """Each moves amounts between two accounts, one move in each transaction. A client that applies whole commits never sees another sum, and the
     commits' numbers rise by one."""
     mirror, *writers = clients
     each, first = 50, {"a": 1000, "b": 1000}
 
-    def attempt(connection, changes):
+    def attempt(connection: Connection, changes: Any) -> bool:
         for key, amount in changes:
             found = connection.ask(("wread", ("t", key)))
             if found == "restart" or connection.ask(write(key, found[0][2] + amount)) != OK:
                 return False
         return True
 
-    def move_all(connection, seed):
+    def move_all(connection: Connection, seed: int) -> None:
         chance = random.Random(seed)
         for _ in range(each):
             one, other = chance.sample(list(first), 2)
@@ -410,7 +411,7 @@ def test_four_move_amounts(clients):
                 pass
             assert connection.ask("commit")[0] == "atomic", "commit"
 
-    def follow():
+    def follow() -> None:
         accounts = dict(first)
         for wanted in range(2, each * len(writers) + 2):
             word, number, events = mirror.event()
@@ -426,7 +427,7 @@ def test_four_move_amounts(clients):
 
 
 @served(1)
-def test_refused(clients):
+def test_refused(clients: List[Connection]) -> None:
     """A payload that is no term or no command is refused, and the session goes on; a payload that is too long ends it."""
     [connection] = clients
     script((connection, "join", ("error", "badcommand")), (connection, (1, "begin"), ("error", "badcommand")))
@@ -448,7 +449,7 @@ def test_refused(clients):
         pytest.param(unread, id="replies that are not read"),
     ],
 )
-def test_frees(clients, end):
+def test_frees(clients: List[Connection], end: Any) -> None:
     """A session whose stream ends so leaves, and its locks are released."""
     first, second = clients
     script((first, CREATE, ATOMIC))
@@ -470,7 +471,7 @@ def test_frees(clients, end):
 
 
 @served(2)
-def test_names_of_any_length(clients):
+def test_names_of_any_length(clients: List[Connection]) -> None:
     """Names of any length come back as they were sent: of up to 22 bytes, which are stored in the term, and longer ones, which are shared."""
     client, mirror = clients
     for letter, size in [("n", size) for size in (1, 21, 22, 23, 24, 254)] + [("ä", 10), ("ä", 11), ("ä", 12), ("ä", 254)]:
@@ -489,13 +490,14 @@ def test_names_of_any_length(clients):
             assert mirror.event()[1][:4] == wanted, "an event"
 
 
-def test_an_accept_that_fails(serve):
+def test_an_accept_that_fails(serve: Callable[..., Server]) -> None:
     """If there are no more handles, the next connection is closed with no frame, and no more are accepted. The existing ones
     are served to their end, and the server ends with status 1."""
     server = serve("--connections", "4")
     first = server.connect()
     script((first, CREATE, ATOMIC), (first, "begin", ("tid", 1)))
     # The accept that waits has its handle already.
+    server.accepts()
     resource.prlimit(server.process.pid, resource.RLIMIT_NOFILE, (3, 3))
     assert server.connect().stream.read() == b"", "the next"
     script((first, write(1, "a"), OK), (first, "commit", ("atomic", 1)))

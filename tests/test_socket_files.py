@@ -11,6 +11,7 @@ import stat
 import subprocess
 import tempfile
 import time
+from typing import Any, Iterator, Tuple
 
 import pytest
 
@@ -29,34 +30,34 @@ AT_ONCE = 1
 class Place:
     """The program, with a folder for a socket file."""
 
-    def __init__(self, program, folder):
+    def __init__(self, program: str, folder: str) -> None:
         self.program, self.folder, self.path = program, folder, os.path.join(folder, "socket")
 
-    def server(self, *more, path=None, connections=2, **options):
+    def server(self, *more: Any, path: Any = None, connections: int = 2, **options: Any) -> Any:
         """A server that has printed its address."""
         server = Server(self.program, "--connections", str(connections), *more, path=path or self.path, **options)
         assert server.place == (path or self.path), "the address"
         return server
 
-    def refused(self, told, *more, path=None, **options):
+    def refused(self, told: Any, *more: Any, path: Any = None, **options: Any) -> None:
         """A start fails, and says no more than this on standard error."""
         words = [self.program, "serve", "--socket", path or self.path, "--connections", "2", *more]
         done = subprocess.run(words, stdin=subprocess.DEVNULL, capture_output=True, text=True, timeout=PATIENCE, check=False, **options)
         assert (done.returncode, done.stdout, done.stderr) == (1, "", told), "a start that fails"
 
-    def file(self):
+    def file(self) -> Tuple[Any, ...]:
         found = os.lstat(self.path)
         return found.st_ino, stat.S_IFMT(found.st_mode), stat.S_IMODE(found.st_mode)
 
 
 @pytest.fixture
-def place(tabd):
+def place(tabd: str) -> Iterator[Any]:
     """In a short path, since that of a socket file is."""
     with tempfile.TemporaryDirectory() as folder:
         yield Place(tabd, folder)
 
 
-def is_served(path):
+def is_served(path: str) -> None:
     """A transaction that comes to a file is answered."""
     connection = Connection(path)
     script((connection, "begin", ("tid", 1)), (connection, ("abort", "no"), ("aborted", "no")))
@@ -64,13 +65,13 @@ def is_served(path):
 
 
 @pytest.mark.parametrize("umask, wanted", [(0o177, 0o600), (0o117, 0o660)], ids=["for one user", "for a group"])
-def test_mode(place, umask, wanted):
+def test_mode(place: Any, umask: int, wanted: Any) -> None:
     """The umask sets the file's permissions."""
     with place.server(umask=umask):
         assert place.file()[1:] == (stat.S_IFSOCK, wanted)
 
 
-def test_requests_and_events(place):
+def test_requests_and_events(place: Any) -> None:
     """Requests and events, and the end of a server whose connections are closed: the file is gone."""
     with place.server() as server:
         first, second = Connection(place.path), Connection(place.path)
@@ -84,7 +85,7 @@ def test_requests_and_events(place):
         assert os.listdir(place.folder) == [], "the folder"
 
 
-def test_with_counters(place):
+def test_with_counters(place: Any) -> None:
     """The port of the counters stays on loopback."""
     with place.server("--metrics", "0") as server:
         port = int(server.line().removeprefix("metrics on 127.0.0.1:"))
@@ -92,7 +93,7 @@ def test_with_counters(place):
         is_served(place.path)
 
 
-def test_file_of_a_killed_server(place):
+def test_file_of_a_killed_server(place: Any) -> None:
     """A file at which no one listens any more is taken over."""
     with place.server():
         pass
@@ -108,7 +109,7 @@ def test_file_of_a_killed_server(place):
         is_served(place.path)
 
 
-def test_in_use(place):
+def test_in_use(place: Any) -> None:
     """A file at which a server listens stays, and so does that server."""
     # A start that is refused has connected, to see whether a server listens, and that server may not have seen it go yet.
     with place.server("--forever", connections=3):
@@ -119,28 +120,28 @@ def test_in_use(place):
         is_served(place.path)
 
 
-def make_file(place):
+def make_file(place: Any) -> None:
     with open(place.path, "w", encoding="ascii") as file:
         file.write("kept")
 
 
-def look_at_file(place):
+def look_at_file(place: Any) -> None:
     with open(place.path, encoding="ascii") as file:
         assert file.read() == "kept", "the file"
 
 
-def make_link(place):
+def make_link(place: Any) -> None:
     """To a socket file at which no one listens."""
     with socket.socket(socket.AF_UNIX) as left:
         left.bind(place.path + ".left")
     os.symlink(place.path + ".left", place.path)
 
 
-def look_at_link(place):
+def look_at_link(place: Any) -> None:
     assert (os.readlink(place.path), os.path.exists(place.path)) == (place.path + ".left", True), "the link"
 
 
-def look_at_folder(place):
+def look_at_folder(place: Any) -> None:
     assert os.listdir(place.path) == [], "the folder"
 
 
@@ -149,19 +150,20 @@ def look_at_folder(place):
     [(make_file, look_at_file), (lambda place: os.mkdir(place.path), look_at_folder), (make_link, look_at_link)],
     ids=["a file", "a folder", "a link"],
 )
-def test_no_socket(place, make, look):
+def test_no_socket(place: Any, make: Any, look: Any) -> None:
     """What is no socket file stays as it is."""
     make(place)
     place.refused(IN_USE)
     look(place)
 
 
-def test_no_accept(place):
+def test_no_accept(place: Any) -> None:
     """A server that ends since it can't accept removes its file too."""
     with place.server(connections=4) as server:
         first = Connection(place.path)
         script((first, CREATE, ATOMIC))
         # The accept that waits has its handle already.
+        server.accepts()
         resource.prlimit(server.process.pid, resource.RLIMIT_NOFILE, (3, 3))
         assert Connection(place.path).stream.read() == b"", "the next"
         first.close()
@@ -169,7 +171,7 @@ def test_no_accept(place):
         assert os.listdir(place.folder) == [], "the folder"
 
 
-def test_exchanged(place):
+def test_exchanged(place: Any) -> None:
     """The server does not remove a file that has replaced its own."""
     with place.server() as server:
         connections = [Connection(place.path) for _ in range(2)]
@@ -183,7 +185,7 @@ def test_exchanged(place):
             assert place.file() == before, "the file"
 
 
-def test_removed(place):
+def test_removed(place: Any) -> None:
     """Nor does it mind that the file is gone."""
     with place.server() as server:
         connections = [Connection(place.path) for _ in range(2)]
@@ -193,21 +195,21 @@ def test_removed(place):
         server.ends()
 
 
-def test_no_page(place):
+def test_no_page(place: Any) -> None:
     """A start that fails after it has created the file removes it."""
     with socket.create_server(("127.0.0.1", 0)) as taken:
         place.refused(IN_USE, "--metrics", str(taken.getsockname()[1]))
         assert os.listdir(place.folder) == [], "the folder"
 
 
-def test_a_closed_stream(place):
+def test_a_closed_stream(place: Any) -> None:
     """A standard stream is closed, whose number the socket would get."""
     for file, told in [(0, DEVICE + "tabd: a standard stream is closed\n"), (1, DEVICE + "tabd: a standard stream is closed\n"), (2, "")]:
         place.refused(told, preexec_fn=lambda file=file: os.close(file))
         assert os.listdir(place.folder) == [], "the folder"
 
 
-def test_a_long_path(place):
+def test_a_long_path(place: Any) -> None:
     """A path has 107 bytes at most."""
     most = os.path.join(place.folder, "x" * (106 - len(place.folder)))
     assert len(most) == 107, "its length"
@@ -218,18 +220,18 @@ def test_a_long_path(place):
     assert os.listdir(place.folder) == [], "the folder"
 
 
-def test_no_folder(place):
+def test_no_folder(place: Any) -> None:
     """The folder has to be there."""
     place.refused(DEVICE + "tabd: No such file or directory (os error 2)\n", path=os.path.join(place.folder, "none", "socket"))
 
 
-def test_no_permission(place):
+def test_no_permission(place: Any) -> None:
     """A folder in which not even the superuser makes a file."""
     place.refused(DEVICE + "tabd: Operation not permitted (os error 1)\n", path="/sys/kernel/tabd")
 
 
 @pytest.mark.tries(3)
-def test_a_full_queue(place):
+def test_a_full_queue(place: Any) -> None:
     """A listener that accepts nothing, and whose queue has no room for one more: the start fails at once."""
     with contextlib.ExitStack() as stack:
         listener = stack.enter_context(socket.socket(socket.AF_UNIX))
@@ -245,7 +247,7 @@ def test_a_full_queue(place):
         assert time.monotonic() - begun < AT_ONCE and place.file() == before
 
 
-def test_a_relative_path(place):
+def test_a_relative_path(place: Any) -> None:
     """A path from the folder in which the server was started."""
     with place.server(path="socket", cwd=place.folder):
         is_served(place.path)

@@ -1,6 +1,6 @@
 """The replay of the built program over streams whose replies are known: whole, in pieces, cut, and on devices that fail.
 
-It is some twenty thousand runs.
+It is some twenty thousand runs. The known replies are also those of the model (sessions.py), which makes them from the requests.
 """
 
 import itertools
@@ -11,11 +11,14 @@ import socket
 import subprocess
 import tempfile
 import threading
-from typing import Set
+from typing import Any, Iterator, Set, Tuple
 
 import pytest
 
-from tests.lib.streams import DEVICE, streams
+from tests.lib import planted
+from tests.lib.sessions import Book
+from tests.lib.streams import DEVICE, Stream, streams
+from tests.lib.wire import term_of
 
 SECONDS = 60
 # A stream of at most so many bytes is cut at each of them: all but those of a thousand operations or of hundreds of sessions and
@@ -31,24 +34,24 @@ STREAMS = sorted(streams(), key=lambda stream: -len(stream.all))
 each_stream = pytest.mark.parametrize("stream", STREAMS, ids=[stream.name for stream in STREAMS])
 
 
-def started(program, stream, stdin=subprocess.PIPE, stdout=subprocess.PIPE, **words):
+def started(program: str, stream: Stream, stdin: Any = subprocess.PIPE, stdout: Any = subprocess.PIPE, **words: Any) -> Any:
     return subprocess.Popen([program, *stream.words], stdin=stdin, stdout=stdout, stderr=subprocess.PIPE, **words)
 
 
-def run(program, stream, given):
+def run(program: str, stream: Stream, given: Any) -> Tuple[Any, ...]:
     """On an input that has these bytes at once."""
     child = started(program, stream)
     told, err = child.communicate(given, timeout=SECONDS)
     return child.returncode, told, err
 
 
-def pieces(program, stream, parts, **streams):
+def pieces(program: str, stream: Stream, parts: Any, **streams: Any) -> Tuple[Any, ...]:
     """Each read gets one piece: the pipe keeps what is written to it apart (O_DIRECT), and nothing flows together."""
     end, start = os.pipe2(os.O_DIRECT | os.O_CLOEXEC)
     child = started(program, stream, stdin=end, **streams)
     os.close(end)
 
-    def write():
+    def write() -> None:
         try:
             for part in parts:
                 os.write(start, part)
@@ -63,10 +66,10 @@ def pieces(program, stream, parts, **streams):
     return child.returncode, told, err
 
 
-def full(program, stream, parts, room):
+def full(program: str, stream: Stream, parts: Any, room: int) -> Tuple[Any, ...]:
     """The output is a file that has room for so many bytes, and then the next write fails."""
 
-    def limit():
+    def limit() -> None:
         signal.signal(signal.SIGXFSZ, signal.SIG_IGN)
         resource.setrlimit(resource.RLIMIT_FSIZE, (room, room))
 
@@ -76,14 +79,14 @@ def full(program, stream, parts, room):
         return status, file.read(), err
 
 
-def exactly(file, size):
+def exactly(file: Any, size: int) -> Any:
     out = b""
     while len(out) < size and (more := os.read(file, size - len(out))):
         out += more
     return out
 
 
-def half(program, stream, count):
+def half(program: str, stream: Stream, count: int) -> Tuple[Any, ...]:
     """A program that was asked the first so many frames, one by one over a socket, and what it answered; both are open yet."""
     ours, its = socket.socketpair()
     end, start = os.pipe()
@@ -95,7 +98,7 @@ def half(program, stream, count):
     return child, ours, its, end, told
 
 
-def no_reader(program, stream, count):
+def no_reader(program: str, stream: Stream, count: int) -> Tuple[Any, ...]:
     """The output is closed after so many replies: the next can't be written."""
     child, ours, its, end, told = half(program, stream, count)
     os.close(end)
@@ -109,7 +112,7 @@ def no_reader(program, stream, count):
     return child.returncode, told, err
 
 
-def no_input(program, stream, count, more):
+def no_input(program: str, stream: Stream, count: int, more: Any) -> Tuple[Any, ...]:
     """The input breaks off after so many replies, and after so many bytes of the next frame: the next read fails.
 
     A socket whose other end is closed while it has unread bytes is reset.
@@ -125,8 +128,8 @@ def no_input(program, stream, count, more):
     return child.returncode, told, err
 
 
-def cuts(stream):
-    """The offsets at which the stream is cut, without its end."""
+def cuts(stream: Stream) -> Any:
+    """Where the stream is cut, its end not among them."""
     if len(stream.all) <= CUT:
         return range(len(stream.all))
     ends: Set[int] = set()
@@ -137,15 +140,15 @@ def cuts(stream):
     return sorted(at for at in ends if at < len(stream.all))
 
 
-def rooms(stream):
-    """The lengths at which the output is full: in a short one after each byte, else before the end of each of its first frames and at it."""
+def rooms(stream: Stream) -> Any:
+    """Where the output is full: in a short one after each byte, else before the end of each of its first frames and at it."""
     if len(stream.all) <= SHORT:
         return range(sum(map(len, stream.told)))
     ends = list(itertools.accumulate(map(len, stream.told[:FAILING])))
     return sorted(place for end in ends[:-1] for place in (end - 1, end))
 
 
-def differ(runs):
+def differ(runs: Any) -> Any:
     """Of runs by their names, each a call and what it has to give, those that give something else; the first few."""
     faults = []
     for name, does, given, wanted in runs:
@@ -157,41 +160,52 @@ def differ(runs):
 
 
 @each_stream
-def test_whole(tabd, stream):
+def test_the_model_gives_the_replies(stream: Stream) -> None:
+    assert list(map(term_of, Book(stream.outbox).frames(stream.given))) == list(map(term_of, stream.told))
+    assert Book(stream.outbox).frames(stream.given) == stream.told
+
+
+@pytest.mark.parametrize("model", planted.PLANTED)
+def test_a_planted_model_is_found(model: Any) -> None:
+    assert any(model(stream.outbox).frames(stream.given) != stream.told for stream in STREAMS)
+
+
+@each_stream
+def test_whole(tabd: str, stream: Stream) -> None:
     assert run(tabd, stream, stream.all) == stream.answer(len(stream.all))
 
 
 @each_stream
 @pytest.mark.parametrize("size", [1, 2, 3])
-def test_in_pieces(tabd, stream, size):
+def test_in_pieces(tabd: str, stream: Stream, size: int) -> None:
     parts = [stream.all[place : place + size] for place in range(0, len(stream.all), size)]
     assert pieces(tabd, stream, parts) == stream.answer(len(stream.all))
 
 
 @each_stream
-def test_cut(tabd, stream):
+def test_cut(tabd: str, stream: Stream) -> None:
     """At each byte."""
     assert not differ((place, run, (tabd, stream, stream.all[:place]), stream.answer(place)) for place in cuts(stream))
 
 
-def failing(stream):
+def failing(stream: Stream) -> Iterator[Any]:
     """After how many frames a device fails, and what has to come of it."""
     for count in range(min(FAILING, len(stream.given))):
         yield count, (1, b"".join(stream.told[:count]), DEVICE)
 
 
 @each_stream
-def test_output_that_no_one_reads(tabd, stream):
+def test_output_that_no_one_reads(tabd: str, stream: Stream) -> None:
     assert not differ((count, no_reader, (tabd, stream, count), wanted) for count, wanted in failing(stream))
 
 
 @each_stream
-def test_input_that_breaks_off(tabd, stream):
+def test_input_that_breaks_off(tabd: str, stream: Stream) -> None:
     assert not differ(((count, more), no_input, (tabd, stream, count, more), wanted) for count, wanted in failing(stream) for more in (0, 3))
 
 
 @each_stream
-def test_output_that_is_full(tabd, stream):
+def test_output_that_is_full(tabd: str, stream: Stream) -> None:
     told, whole = b"".join(stream.told), b"".join(stream.given)
     pairs = itertools.product(rooms(stream), (stream.given, [whole]))
     assert not differ(((room, len(parts)), full, (tabd, stream, parts, room), (1, told[:room], DEVICE)) for room, parts in pairs)

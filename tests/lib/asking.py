@@ -2,9 +2,10 @@
 
 import os
 import subprocess
-from typing import Iterable, List, Sequence, Tuple
+from typing import Callable, Iterable, List, Sequence, Tuple
 
-from tests.lib.model import OPTIONS
+from tests.lib.model import EMPTY, OPTIONS
+from tests.lib.sessions import Book, Session
 from tests.lib.wire import Term, frame, take, term_of
 
 # A session of a run, by its index, and its request.
@@ -16,6 +17,7 @@ class Replay:
     its replies are read, so that it takes one turn of the two processes."""
 
     def __init__(self, program: str, outbox: int = 64) -> None:
+        self.outbox = outbox
         end, self.start = os.pipe2(os.O_DIRECT | os.O_CLOEXEC)
         self.process = subprocess.Popen([program, "replay", "--outbox", str(outbox)], stdin=end, stdout=subprocess.PIPE)
         os.close(end)
@@ -53,6 +55,12 @@ class Replay:
         return replies
 
     def ask(self, steps: Sequence[Step]) -> List[Term]:
-        """The replies to steps of the run's sessions; a session with a greater index joins first."""
-        self.count = max(self.count, *(who + 1 for who, _ in steps))
+        """The replies to steps of the run's sessions."""
         return [term_of(one)[1] for one in self.told(self.frames(steps), len(steps))]
+
+    def book(self, model: Callable[[int], Book]) -> Book:
+        """The model of the run, as it was before the first steps."""
+        book = model(self.outbox)
+        book.tables, book.age, book.number, book.last = EMPTY, self.age, self.number, self.first + self.count - 1
+        book.sessions = {self.first + who: Session() for who in range(self.count)}
+        return book

@@ -10,7 +10,7 @@ import random
 import select
 import threading
 import time
-from typing import Any
+from typing import Any, List, Set, Tuple
 
 from tests.lib.judging import LONG, Attempt, Differs, Log, OneShot, Run, is_operation
 from tests.lib.model import KINDS, OPTIONS
@@ -29,21 +29,21 @@ now = time.monotonic
 class Chance(random.Random):
     """Random requests. A fresh value is no other's."""
 
-    def __init__(self, seed, number):
+    def __init__(self, seed: Any, number: Any) -> None:
         super().__init__(f"{seed}/{number}")
         self.last = number * 1_000_000
 
-    def fresh(self, tab):
+    def fresh(self, tab: str) -> Any:
         self.last += 1
         return (self.last, LONG) if tab == "t" and self.random() < 0.4 else self.last
 
-    def record(self, tab, key):
+    def record(self, tab: str, key: Any) -> Tuple[Any, ...]:
         return (tab, key, self.choice(CLASSES), self.randrange(COMMON) if self.random() < 0.3 else self.fresh(tab))
 
-    def failing(self, tab="t", key=1):
+    def failing(self, tab: str = "t", key: Any = 1) -> Any:
         return self.choice([("read", "nosuch", 1), ("write", (tab, key)), ("index_read", tab, 0, "value"), ("delete", ("nosuch", 1))])
 
-    def operation(self, fails=True):
+    def operation(self, fails: bool = True) -> Any:
         tab, key = self.choice(list(KINDS)), self.choice(KEYS)
         name = self.choices(list(OPERATIONS), list(OPERATIONS.values()))[0]
         if name == "fail":
@@ -60,7 +60,7 @@ class Chance(random.Random):
             return (name, (tab, self.choice([key, key, "_"]), self.choice(["_", 0]), "_"))
         return (name, tab)
 
-    def parts(self):
+    def parts(self) -> Tuple[Any, ...]:
         """The members of a one-shot, and the value of its last write, which no other has."""
         parts = [self.operation(self.random() < 0.3) for _ in range(self.randrange(1, 5))]
         if self.random() < 0.1:
@@ -78,17 +78,17 @@ class Chance(random.Random):
 class Writer:
     """A client that makes transactions until the time is over, and logs them. One that vanishes comes again."""
 
-    def __init__(self, game, number, connection=None):
+    def __init__(self, game: Any, number: Any, connection: Any = None) -> None:
         self.game, self.chance, self.connection = game, Chance(game.seed, number), connection or Connection(game.port)
         self.attempt: Any = None
         self.depth, self.given_up = 0, 0
 
-    def ask(self, what):
+    def ask(self, what: Any) -> Tuple[Any, ...]:
         sent = now()
         reply = self.connection.ask(what)
         return reply, sent, now()
 
-    def run(self):
+    def run(self) -> None:
         kinds = [self.transaction] * 12 + [self.ahead] * 3 + [self.one_shot] * 5
         while now() < self.game.end:
             self.chance.choice(kinds)()
@@ -96,13 +96,13 @@ class Writer:
                 time.sleep(self.chance.random() * 0.01)
         self.connection.close()
 
-    def begun(self, reply, sent, got):
+    def begun(self, reply: Any, sent: Any, got: Any) -> None:
         if not isinstance(reply, tuple) or reply[0] != "tid":
             raise Differs(f"the reply to begin was {reply}")
         self.attempt, self.depth = Attempt(reply[1], sent, got), 1
         self.game.attempts.append(self.attempt)
 
-    def note(self, move, reply, sent, got):
+    def note(self, move: Any, reply: Any, sent: Any, got: Any) -> bool:
         """Notes a reply. Whether the transaction goes on."""
         if reply == "restart":
             self.attempt.ended("restart", sent, got, last=(move, reply, sent, got))
@@ -122,7 +122,7 @@ class Writer:
                 self.attempt.ended("aborted", sent, got)
         return self.depth > 0
 
-    def move(self, left):
+    def move(self, left: int) -> Any:
         """The next move, with so many operations still to do."""
         if left > 0:
             level = self.chance.random()
@@ -133,7 +133,7 @@ class Writer:
             return self.chance.operation()
         return "commit" if self.chance.random() < 0.85 else ("abort", "why")
 
-    def transaction(self):
+    def transaction(self) -> Any:
         self.begun(*self.ask("begin"))
         left, going = self.chance.randrange(1, 7), True
         while going:
@@ -147,7 +147,7 @@ class Writer:
             left = self.chance.randrange(1, 7) if told[0] == "restart" else left - 1
             going = self.note(move, *told)
 
-    def give_up(self, move):
+    def give_up(self, move: Any) -> Any:
         """An operation, and an abort at once after it or if no reply comes soon: an operation that waits then has no reply. Returns whether
         the transaction goes on."""
         self.given_up += 1
@@ -169,13 +169,13 @@ class Writer:
             raise Differs(f"the reply to {abort} was {reply} outside of a transaction")
         return False
 
-    def reply(self):
+    def reply(self) -> Any:
         term = self.connection.receive()
         if term[0] != "reply":
             raise Differs(f"a client that watches nothing received {term}")
         return term[1]
 
-    def vanish(self):
+    def vanish(self) -> None:
         """It asks for something yet, or for its commits, and is gone."""
         move, sent = self.chance.operation(), now()
         if self.chance.random() < 0.5:
@@ -188,7 +188,7 @@ class Writer:
         self.chance.choice([self.connection.close, self.connection.break_off])()
         self.connection = Connection(self.game.port)
 
-    def ahead(self):
+    def ahead(self) -> None:
         """A transaction in one piece: after a restart the following requests are the whole transaction."""
         moves = ["begin", *(self.chance.operation(fails=False) for _ in range(self.chance.randrange(1, 6))), "commit"]
         sent = now()
@@ -199,7 +199,7 @@ class Writer:
                 raise Differs(f"the reply to {move} was {term}")
             self.note(move, term[1], sent, now()) if at else self.begun(term[1], sent, now())
 
-    def one_shot(self):
+    def one_shot(self) -> None:
         parts, tag = self.chance.parts()
         shot = OneShot(parts, tag, now())
         self.game.shots.append(shot)
@@ -217,15 +217,18 @@ class Writer:
 class Watcher(Log):
     """A client that watches tables, and logs its events and markers with their times."""
 
-    def __init__(self, game, name, tabs, level, dump, records=False, small=False, vanishes=False):
+    def __init__(
+        self, game: Any, name: str, tabs: Any, level: str, dump: bool, records: bool = False, small: bool = False, vanishes: bool = False
+    ) -> None:
         super().__init__(name, records)
         self.game, self.tabs, self.level, self.dump, self.small, self.vanishes = game, tabs, level, ("dump",) * dump, small, vanishes
         self.chance, self.connection = Chance(game.seed, name), Connection(game.port, small)
-        self.replies, self.data = [], bytearray()
-        self.watched = set()
+        self.replies: List[Any] = []
+        self.watched: Set[str] = set()
+        self.data = bytearray()
         game.watchers.append(self)
 
-    def pump(self, patience):
+    def pump(self, patience: float) -> bool:
         """Reads what is there, and waits no longer for it. False at the stream's end."""
         if not select.select([self.connection.socket], [], [], patience)[0]:
             return True
@@ -244,13 +247,13 @@ class Watcher(Log):
         del self.data[:place]
         return bool(more)
 
-    def until(self, what, is_so):
+    def until(self, what: Any, is_so: Any) -> None:
         end = now() + PATIENCE
         while not is_so():
             if now() > end or not self.pump(0.5) and not is_so():
                 raise Differs(f"{self.name} waits for {what}")
 
-    def ask(self, request):
+    def ask(self, request: Any) -> Any:
         sent = now()
         self.connection.send(request)
         self.until(request, lambda: self.replies)
@@ -261,11 +264,11 @@ class Watcher(Log):
             raise Differs(f"{self.name}: the reply to {request} was {reply}")
         return reply
 
-    def subscribe(self, tab):
+    def subscribe(self, tab: str) -> None:
         if self.ask(("subscribe", ("table", tab, self.level), *self.dump))[0] == "ok":
             self.watched.add(tab)
 
-    def unsubscribe(self, tab):
+    def unsubscribe(self, tab: str) -> bool:
         """If the table is not watched any more, an overflow comes, or has come."""
         reply = self.ask(("unsubscribe", ("table", tab, self.level)))
         if reply[0] == "ok":
@@ -274,7 +277,7 @@ class Watcher(Log):
             self.until("an overflow", lambda: tab not in self.watched)
         return reply[0] == "ok"
 
-    def run(self):
+    def run(self) -> Any:
         while now() < self.game.end:
             self.pump(0.02)
             for tab in self.tabs:
@@ -290,7 +293,7 @@ class Watcher(Log):
         self.game.over.wait()
         return self.finish()
 
-    def idle(self):
+    def idle(self) -> None:
         chance = self.chance.random()
         if self.small and chance < 0.15:
             time.sleep(self.chance.random() * 1.5)
@@ -299,7 +302,7 @@ class Watcher(Log):
         elif chance < 0.25 and self.watched:
             self.unsubscribe(self.chance.choice(sorted(self.watched)))
 
-    def finish(self):
+    def finish(self) -> None:
         """Unsubscribes, and reads up to its last marker."""
         self.connection.widen()
         end = now() + PATIENCE
@@ -315,9 +318,12 @@ class Watcher(Log):
 class Game:
     """One round: a server, its clients, and their logs."""
 
-    def __init__(self, port, seed, seconds, gives_up):
+    def __init__(self, port: Any, seed: Any, seconds: float, gives_up: Any) -> None:
         self.port, self.seed, self.gives_up, self.given_up = port, seed, gives_up, 0
-        self.attempts, self.shots, self.watchers, self.failed = [], [], [], []
+        self.attempts: List[Attempt] = []
+        self.shots: List[OneShot] = []
+        self.watchers: List[Watcher] = []
+        self.failed: List[str] = []
         self.vanishing, self.lock, self.over = VANISHING, threading.Lock(), threading.Event()
         self.first = Connection(port)
         for tab, options in OPTIONS.items():
@@ -335,13 +341,13 @@ class Game:
         self.writers = [Writer(self, number) for number in range(1, WRITERS + 1)]
         self.end = now() + seconds
 
-    def may_vanish(self):
+    def may_vanish(self) -> bool:
         with self.lock:
             self.vanishing -= 1
             return self.vanishing >= 0
 
-    def side_by_side(self, clients):
-        def run(client):
+    def side_by_side(self, clients: List[Any]) -> Any:
+        def run(client: Any) -> None:
             try:
                 client.run()
             except (Differs, OSError, ValueError, TypeError, IndexError) as error:
@@ -355,7 +361,7 @@ class Game:
             thread.start()
         return threads
 
-    def play(self):
+    def play(self) -> Any:
         """Plays the round; the number and the age of its last commit, which reads all and writes to all tables."""
         watching = self.side_by_side(list(self.watchers))
         for thread in self.side_by_side(self.writers):
@@ -367,7 +373,7 @@ class Game:
         self.first.close()
         return closing
 
-    def close(self):
+    def close(self) -> Tuple[Any, ...]:
         """Both tables are read and written, and the last commit made."""
         last = Writer(self, 0, self.first)
         last.begun(*last.ask("begin"))
@@ -378,11 +384,11 @@ class Game:
         last.note("commit", *last.ask("commit"))
         return self.attempts[-1].number, self.attempts[-1].age
 
-    def run(self):
+    def run(self) -> Any:
         """Plays the round, and returns all replies and events. Undecided if no recorder has the whole order."""
         return Run(self.attempts, self.shots, self.watchers, self.play(), OUTBOX)
 
-    def told(self):
+    def told(self) -> str:
         events = sum(len(watcher.frames) for watcher in self.watchers)
         ends = {end: sum(it.end == end for it in self.attempts) for end in ("commit", "restart", "aborted", "vanished", "maybe")}
         overflows = sum(term[0] == "mnesia_overflow" for watcher in self.watchers for term, _ in watcher.frames)

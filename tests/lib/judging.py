@@ -18,6 +18,8 @@ from tests.lib.wire import spell
 
 # Some values are so long that sockets fill up; none of the bag, whose keys have many records.
 LONG = bytes(4000)
+# The transactions of fewer commits than these may be open one after another by chance.
+FEW = 100
 
 
 class Undecided(Exception):
@@ -31,21 +33,22 @@ class Differs(Exception):
 class Attempt:
     """A transaction's steps since its begin or its last restart: each a move, its reply, when it was sent and when answered."""
 
-    def __init__(self, age, sent, got):
-        self.age, self.began, self.steps = age, (sent, got), []
+    def __init__(self, age: Any, sent: Any, got: Any) -> None:
+        self.age, self.began = age, (sent, got)
+        self.steps: List[Any] = []
         # How it ended, the times of that request and its reply; the operation that died or was never answered.
         self.end, self.sent, self.got, self.last = None, math.inf, math.inf, None
         self.number = None
         # Operations whose wait an abort has ended, and when they were asked.
-        self.given_up = []
+        self.given_up: List[Any] = []
 
-    def ended(self, end, sent, got, number=None, last=None):
+    def ended(self, end: Any, sent: Any, got: Any, number: Any = None, last: Any = None) -> None:
         self.end, self.sent, self.got, self.number, self.last = end, sent, got, number, last
 
-    def may_commit(self):
+    def may_commit(self) -> bool:
         return self.end in ("commit", "maybe")
 
-    def alone(self, tables):
+    def alone(self, tables: Any) -> Tuple[Any, ...]:
         """Its updates if its replies, run serially, are those of the log; else the first move with another reply."""
         alone = Alone(tables)
         for move, reply, *_ in self.steps:
@@ -55,13 +58,13 @@ class Attempt:
                 return None, f"the reply to {move} was {reply}, serially it is {wanted}"
         return alone.updates, None
 
-    def locks(self):
+    def locks(self) -> Iterator[Any]:
         """The locks that it surely had, with their times."""
         for move, _, _, got in self.steps:
             if is_operation(move) and got < self.sent:
                 yield lock_of(move), got, self.sent
 
-    def asked(self):
+    def asked(self) -> Iterator[Any]:
         """The locks that it requested, with the times in which it may have had them or waited for them."""
         until = self.got
         for move, _, sent, _ in self.steps + ([self.last] if self.last else []):
@@ -74,20 +77,20 @@ class Attempt:
 class OneShot:
     """A transaction in one request. If it writes, its last write has a value that no other has."""
 
-    def __init__(self, parts, tag, sent):
+    def __init__(self, parts: Any, tag: Any, sent: Any) -> None:
         self.parts, self.tag, self.sent, self.got, self.reply, self.age, self.number = parts, tag, sent, math.inf, None, None, None
 
-    def may_commit(self):
+    def may_commit(self) -> bool:
         return self.reply is None or self.reply[0] == "atomic"
 
-    def alone(self, tables):
+    def alone(self, tables: Any) -> Tuple[Any, ...]:
         alone = Alone(tables)
         told = alone.one_shot(self.parts)
         if self.reply is not None and self.reply != told:
             return None, f"the reply to the one-shot {self.parts} was {self.reply}, serially it is {told}"
         return alone.updates, None
 
-    def asked(self):
+    def asked(self) -> Iterator[Any]:
         for part in flat(self.parts):
             if is_operation(part):
                 yield lock_of(part), self.sent, self.got
@@ -97,20 +100,22 @@ class Log:
     """The log of a subscriber, by its name: the received terms with their times, and the begins and ends of its subscriptions with theirs,
     as they were granted. Whether it records the order of all commits, and whether it vanished."""
 
-    def __init__(self, name, records):
-        self.name, self.records, self.vanished, self.frames, self.marks = name, records, False, [], []
+    def __init__(self, name: str, records: Any) -> None:
+        self.name, self.records, self.vanished = name, records, False
+        self.frames: List[Any] = []
+        self.marks: List[Any] = []
 
-    def fields(self):
+    def fields(self) -> Dict[Any, Any]:
         return {name: getattr(self, name) for name in ("name", "records", "vanished", "frames", "marks")}
 
 
 class Run:
     """The logs of all clients, and the number and the age of the last commit, which reads all and writes to all tables."""
 
-    def __init__(self, attempts, shots, logs, closing, outbox):
+    def __init__(self, attempts: List[Any], shots: Any, logs: Any, closing: Any, outbox: int) -> None:
         self.attempts, self.shots, self.logs, self.closing, self.outbox = attempts, shots, logs, closing, outbox
 
-    def save(self, path):
+    def save(self, path: str) -> None:
         """A record: a line for each transaction and subscriber, as a Python literal, with the names LONG and inf."""
         rows = [("run", {"closing": self.closing, "outbox": self.outbox})]
         rows += [(type(it).__name__, vars(it)) for it in [*self.attempts, *self.shots]] + [("Log", log.fields()) for log in self.logs]
@@ -118,7 +123,7 @@ class Run:
             file.writelines(shown(repr(row)) + "\n" for row in rows)
 
     @staticmethod
-    def load(path):
+    def load(path: str) -> Any:
         made: Dict[str, List[Any]] = {"run": [], "Attempt": [], "OneShot": [], "Log": []}
         with open(path, encoding="utf-8") as file:
             for kind, fields in map(value_of, file):
@@ -130,32 +135,32 @@ class Run:
         return Run(made["Attempt"], made["OneShot"], made["Log"], run.closing, run.outbox)
 
 
-def shown(text):
+def shown(text: str) -> Any:
     return text.replace(repr(LONG), "LONG")
 
 
-def value_of(line):
+def value_of(line: str) -> Any:
     """The value of a record's line."""
     tree = ast.parse(line.strip(), mode="eval")
     names = {"LONG": ast.Constant(LONG), "inf": ast.Constant(math.inf)}
 
     class Named(ast.NodeTransformer):
-        def visit_Name(self, node):
+        def visit_Name(self, node: Any) -> Any:
             return names[node.id]
 
     return ast.literal_eval(Named().visit(tree).body)
 
 
-def flat(parts):
+def flat(parts: Any) -> Iterator[Any]:
     for part in parts:
         yield from flat(part[1]) if part[0] == "transaction" else [part]
 
 
-def is_operation(move):
+def is_operation(move: Any) -> bool:
     return move not in ("begin", "commit") and move[0] != "abort"
 
 
-def against_time(spans):
+def against_time(spans: Any) -> Any:
     """The first of these that was answered before an earlier one was asked for. Each is a name, and both times."""
     latest, whose = -math.inf, None
     for name, sent, got in spans:
@@ -169,7 +174,7 @@ def against_time(spans):
 class Commit:
     """One that changed something: whose it is, its number or the least and the greatest that it can have, its events."""
 
-    def __init__(self, who, age, told):
+    def __init__(self, who: Any, age: Any, told: Any) -> None:
         self.who, self.age, self.told = who, age, told
         self.least = self.most = who.number
 
@@ -177,7 +182,7 @@ class Commit:
 class Times:
     """Which commits were surely made before a moment, and which may have been: their positions in the order."""
 
-    def __init__(self, commits):
+    def __init__(self, commits: Any) -> None:
         places = list(enumerate(commits, 1))
         over = sorted((one.who.got, place) for place, one in places)
         asked = sorted(((one.who.sent, place) for place, one in places), reverse=True)
@@ -185,13 +190,13 @@ class Times:
         self.greatest = list(itertools.accumulate((place for _, place in over), max, initial=0))
         self.least = list(itertools.accumulate((place for _, place in asked), min, initial=len(commits) + 1))
 
-    def between(self, sent, got):
+    def between(self, sent: Any, got: Any) -> Tuple[Any, ...]:
         """The positions whose tables a request of these times may have seen."""
         first = self.greatest[bisect.bisect_left(self.over, sent)]
         return first, self.least[bisect.bisect_left(self.asked, -got)] - 1
 
 
-def stretches(frames):
+def stretches(frames: Any) -> Iterator[Any]:
     """Of each commit that a recorder received without a gap before it, the age of the one before, and its age and events. None is
     before the first; it watches both tables again from their second marker on."""
     age, marks = None, 0
@@ -211,11 +216,11 @@ def stretches(frames):
 class Judge:
     """Of a run that ended with a commit, the last that changed something."""
 
-    def __init__(self, run):
+    def __init__(self, run: Any) -> None:
         self.attempts, self.shots, self.watchers = run.attempts, run.shots, run.logs
         (self.closing, self.last), self.outbox = run.closing, run.outbox
 
-    def faults(self):
+    def faults(self) -> List[Any]:
         """All faults; those of the order first, on which the other checks depend."""
         try:
             self.commits = self.order(self.recorded())
@@ -232,7 +237,7 @@ class Judge:
                 found.append(f"{watcher.name}: {differs}")
         return [fault for fault in found if fault]
 
-    def recorded(self):
+    def recorded(self) -> Any:
         """The events of all commits in their order, each commit's together: an age, and their terms. If one recorder missed some,
         another goes on."""
         after: Dict[Any, Any] = {}
@@ -248,7 +253,7 @@ class Judge:
             raise Undecided
         return groups
 
-    def order(self, groups):
+    def order(self, groups: Any) -> Any:
         """The commits in the order of their events."""
         by_age = {it.age: it for it in self.attempts if it.may_commit()}
         by_tag = {it.tag: it for it in self.shots if it.tag is not None and it.may_commit()}
@@ -267,7 +272,7 @@ class Judge:
         return commits
 
     @staticmethod
-    def writes(who):
+    def writes(who: Any) -> bool:
         """Whether something of it survives, which is the same on all tables for those replies."""
         if isinstance(who, OneShot):
             return True
@@ -284,9 +289,10 @@ class Judge:
                 depths[-1].append(move)
         return bool(depths[0])
 
-    def run(self):
+    def run(self) -> None:
         """Runs each serially, on the tables after those before it."""
-        self.worlds, self.batches = [EMPTY], [None]
+        self.worlds = [EMPTY]
+        self.batches: List[List[Tuple[str, Dict[str, Any]]]] = [[]]
         for commit in self.commits:
             updates, fault = commit.who.alone(self.worlds[-1])
             if fault:
@@ -297,9 +303,9 @@ class Judge:
                 raise Differs(f"commit {commit.who.number}, of age {commit.age}: its events are {commit.told}, wanted {wanted}")
             self.worlds.append(tables)
             self.batches.append(told)
-        self.touched = {tab: [at for at, told in enumerate(self.batches) if told and any(it[0] == tab for it in told)] for tab in EMPTY}
+        self.touched = {tab: [at for at, told in enumerate(self.batches) if any(it[0] == tab for it in told)] for tab in EMPTY}
 
-    def number(self):
+    def number(self) -> None:
         """The commits' numbers: each once, and enough other ones for the commits whose replies have none."""
         known = [it.number for it in self.attempts if it.end == "commit"]
         if len(set(known)) != len(known) or max(known) != self.closing:
@@ -315,7 +321,7 @@ class Judge:
             raise Differs("the commits' numbers are in another order than their events")
         self.share(free)
 
-    def share(self, free):
+    def share(self, free: Any) -> None:
         """The unused numbers between two commits, for those between them whose replies have none."""
         before, pending = 0, []
         for commit in [*self.commits, None]:
@@ -330,7 +336,7 @@ class Judge:
                 one.least, one.most = left[at], left[len(left) - len(pending) + at]
             before, pending = number, []
 
-    def in_time(self):
+    def in_time(self) -> Any:
         """Commits, numbers and ages go with the time."""
         ages = sorted((it.age, *it.began) for it in self.attempts if it.began[1] is not None)
         firsts = [next(group) for _, group in itertools.groupby(ages, lambda it: it[0])]
@@ -339,7 +345,7 @@ class Judge:
         named = lambda what, spans: [(f"{what} {number}", sent, got) for number, sent, got in spans]
         return against_time(commits) or against_time(named("commit", numbers)) or against_time(named("the begin of age", firsts))
 
-    def seen_at(self, who):
+    def seen_at(self, who: Any) -> Any:
         """The positions in the order that the replies of a transaction that changed nothing may have."""
         if isinstance(who, OneShot):
             return self.times.between(who.sent, who.got)
@@ -350,14 +356,14 @@ class Judge:
         under, over = sum(it.most < who.number for it in near), sum(it.least < who.number for it in near)
         return max(first, before + under), min(last, before + over)
 
-    def near(self, number):
+    def near(self, number: int) -> Tuple[Any, ...]:
         """The commits whose replies have no number, between the last with a lesser number and the first with a greater one; and how many are
         before them."""
         at = bisect.bisect(self.told, (number, 0))
         before = self.told[at - 1][1] + 1 if at else 0
         return before, self.commits[before : self.told[at][1] if at < len(self.told) else len(self.commits)]
 
-    def readers(self):
+    def readers(self) -> Iterator[Any]:
         """Checks transactions that changed nothing: their replies are those of the tables at their time."""
         wrote = {id(commit.who) for commit in self.commits}
         told = [it for it in self.attempts if it.steps] + [it for it in self.shots if it.reply and it.reply != ("aborted", "nomore")]
@@ -370,7 +376,7 @@ class Judge:
                 what = f"age {who.age}, {who.end}" if isinstance(who, Attempt) else "a one-shot"
                 yield f"{what}, at {first} to {last} of the order: {faults[-1] if faults else 'no such place'}"
 
-    def locks(self):
+    def locks(self) -> Any:
         """Finds two transactions that surely had conflicting locks at once."""
         spans = sorted((start, end, Owner(it), lock) for it in self.attempts for lock, start, end in it.locks())
         held: List[Any] = []
@@ -382,9 +388,9 @@ class Judge:
                 if whose.age != owner.age and conflict(lock, other):
                     return f"ages {owner.age} and {whose.age} both have {lock} and {other}"
             held.append((start, end, owner, lock))
-        return None if most > 2 else "transactions are open one after another"
+        return None if most > 2 or len(self.commits) < FEW else "transactions are open one after another"
 
-    def restarts(self):
+    def restarts(self) -> Iterator[Any]:
         """Checks that each restarted transaction met an older one that had a lock or waited for it."""
         asked = sorted((sent, until, Owner(it), lock) for it in [*self.attempts, *self.shots] for lock, sent, until in it.asked())
         # A client that vanished may have requested it until the end.
@@ -403,23 +409,25 @@ class Judge:
 class Owner:
     """Comes after equal times in a sorted list."""
 
-    def __init__(self, it):
+    def __init__(self, it: Any) -> None:
         self.it, self.age = it, it.age
 
-    def __lt__(self, other):
+    def __lt__(self, other: Any) -> bool:
         return id(self) < id(other)
 
 
 class Follower:
     """Follows a subscriber's log, and the positions in the order of the commits that it may be at."""
 
-    def __init__(self, judge, watcher):
+    def __init__(self, judge: Any, watcher: Any) -> None:
         self.judge, self.watcher = judge, watcher
-        self.level, self.copies, self.at = {}, {}, [0]
+        self.level: Dict[str, str] = {}
+        self.copies: Dict[str, Any] = {}
+        self.at = [0]
         # Of each item when its first frame came.
-        self.items = []
+        self.items: List[float] = []
 
-    def next(self, place):
+    def next(self, place: Any) -> Any:
         """The next commit with an event for it."""
         nexts = [len(self.judge.batches)]
         for tab in self.level:
@@ -427,12 +435,12 @@ class Follower:
             nexts += touched[bisect.bisect(touched, place) :][:1]
         return min(nexts)
 
-    def owed(self, place):
+    def owed(self, place: Any) -> List[Any]:
         if place >= len(self.judge.batches):
             return []
         return [terms[self.level[tab]] for tab, terms in self.judge.batches[place] if tab in self.level]
 
-    def follow(self):
+    def follow(self) -> None:
         frames: List[Any] = self.watcher.frames
         marks: Iterator[Any] = iter(self.watcher.marks)
         place = 0
@@ -449,7 +457,7 @@ class Follower:
         if not self.watcher.vanished and (self.level or list(marks)):
             raise Differs(f"it never received the end of {list(self.level)}")
 
-    def batch(self, frames, got):
+    def batch(self, frames: Any, got: Any) -> Any:
         """The events of one commit, which have to be together."""
         for place in {self.next(place) for place in self.at}:
             owed = self.owed(place)
@@ -463,7 +471,7 @@ class Follower:
                 return count
         raise Differs(f"received {frames[0]}, and the next is of {[self.owed(self.next(place))[:1] for place in self.at[:2]]}")
 
-    def mirror(self, event):
+    def mirror(self, event: Any) -> None:
         """A copy depends only on the event."""
         what = event[1] if len(event) == 3 else event[2]
         if (rows := self.copies.get(what[0])) is None:
@@ -479,7 +487,7 @@ class Follower:
         if not new:
             del rows[spell(what[1])]
 
-    def mark(self, term, got, asked):
+    def mark(self, term: Any, got: Any, asked: Any) -> None:
         request, sent, answered = asked or (None, 0, 0)
         first, last = self.judge.times.between(sent, answered)
         limits = [(place, self.next(place)) for place in self.at]
@@ -495,26 +503,26 @@ class Follower:
             raise Differs(f"received {term}, asked {request}, at none of {first} to {last} of the order")
         self.at = at
 
-    def begin(self, term, request, at):
+    def begin(self, term: Any, request: Any, at: List[int]) -> Any:
         _, (_, tab, level), *dump = request
         if term[1:3] != (tab, level) or len(term) != 3 + len(dump):
             return []
         if dump:
             at = [place for place in at if whole(self.judge.worlds[place][tab]) == term[3]]
-            self.copies[tab] = dict(self.judge.worlds[at[0]][tab]) if at else None
+            self.copies[tab] = dict(self.judge.worlds[at[0]][tab].rows) if at else None
         self.level[tab] = level
         return at
 
-    def end(self, term, request, at):
+    def end(self, term: Any, request: Any, at: List[int]) -> Any:
         tab, level = request[1][1:]
         if term != ("mnesia_table_end", tab, "unsubscribed") or self.level.pop(tab, None) != level:
             return []
         copy = self.copies.pop(tab, None)
-        if copy is not None and all(copy != self.judge.worlds[place][tab] for place in at):
+        if copy is not None and all(copy != self.judge.worlds[place][tab].rows for place in at):
             raise Differs(f"its copy of {tab} is not the table")
         return at
 
-    def overflow(self, number):
+    def overflow(self, number: int) -> None:
         """Its outbox was full when the commit came."""
         for place in {self.next(place) for place in self.at} - {len(self.judge.batches)}:
             commit, held = self.judge.commits[place - 1], self.items[-self.judge.outbox :]

@@ -2,7 +2,7 @@
 it if it was refused memory. Replies are those of docs/PROTOCOL.md, written by hand.
 """
 
-from typing import Any, List
+from typing import Any, List, Tuple
 
 OK, ATOMIC, HERE = "ok", ("atomic", "ok"), ("ok", "nonode@nohost")
 TABLES = [
@@ -47,11 +47,11 @@ FREE = [
 UNTOLD = [(2, "take", "empty"), (3, "take", "empty")]
 
 
-def shot(*parts, retries=2):
+def shot(*parts: Any, retries: int = 2) -> Tuple[Any, ...]:
     return ("transaction", list(parts), retries)
 
 
-def deep(levels):
+def deep(levels: int) -> Any:
     """So many inner ones, each inside the one before."""
     parts: List[Any] = [("write", ("t", 1, "deep"))]
     for _ in range(levels):
@@ -59,7 +59,7 @@ def deep(levels):
     return parts
 
 
-def deep_told(levels):
+def deep_told(levels: int) -> Any:
     told: List[Any] = [OK]
     for _ in range(levels):
         told = [("atomic", told)]

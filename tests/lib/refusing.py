@@ -9,7 +9,7 @@ import os
 import struct
 import subprocess
 import tempfile
-from typing import Any
+from typing import Any, Tuple
 
 from tests.lib.servers import Server
 from tests.lib.wire import term_of
@@ -17,7 +17,7 @@ from tests.lib.wire import term_of
 NO_MEMORY = ("error", "no_memory")
 
 
-def built(name, folder):
+def built(name: str, folder: Any) -> Any:
     """The library of a source in this file's folder."""
     source, library = os.path.join(os.path.dirname(__file__), f"{name}.c"), os.path.join(folder, f"{name}.so")
     subprocess.run(["cc", "-shared", "-fPIC", "-O1", "-o", library, source, "-ldl", "-lpthread"], check=True)
@@ -28,7 +28,7 @@ class RefusedReplay:
     """A replay whose nth allocation is refused, of those that it makes once so many pieces were read. Further values of the environment are
     those of a wrong one."""
 
-    def __init__(self, program, library, words, nth, start=1, **wrong):
+    def __init__(self, program: str, library: str, words: Any, nth: int, start: int = 1, **wrong: Any) -> None:
         self.report, told = os.pipe()
         env = {"LD_PRELOAD": library, "NTH": str(nth), "FROM": str(start), "REPORT": str(told), **wrong}
         pipe = subprocess.PIPE
@@ -37,14 +37,14 @@ class RefusedReplay:
         # How many frames were answered, and how many of them with no_memory.
         self.answered, self.refused = 0, 0
 
-    def __enter__(self):
+    def __enter__(self) -> Any:
         return self
 
-    def __exit__(self, *_):
+    def __exit__(self, *_: Any) -> None:
         self.process.kill()
         self.process.communicate()
 
-    def ask(self, given):
+    def ask(self, given: Any) -> Any:
         """The reply's frame, or None if the run has ended."""
         try:
             self.process.stdin.write(given)
@@ -60,7 +60,7 @@ class RefusedReplay:
         self.answered += 1
         return told
 
-    def asked(self, given, wanted):
+    def asked(self, given: Any, wanted: Any) -> Any:
         """The reply, which has to be the wanted one, at the latest when the request is sent again. None if the run has ended."""
         told = self.ask(given)
         if told is not None and is_no_memory(told, wanted) and told != wanted:
@@ -69,7 +69,7 @@ class RefusedReplay:
         assert told in (None, wanted), f"frame {self.answered}: told {told!r}, wanted {wanted!r}"
         return told
 
-    def ended(self):
+    def ended(self) -> Tuple[Any, ...]:
         """The step at which memory was refused, and how the run ended."""
         _, err = self.process.communicate()
         with open(self.report, encoding="utf-8") as file:
@@ -77,7 +77,7 @@ class RefusedReplay:
         return where, self.process.returncode, err
 
 
-def is_no_memory(told, wanted):
+def is_no_memory(told: Any, wanted: Any) -> bool:
     """Under the session that the wanted reply has, or under 0."""
     session, reply = term_of(told)
     return reply == NO_MEMORY and session in (0, term_of(wanted)[0])
@@ -86,7 +86,7 @@ def is_no_memory(told, wanted):
 class RefusedServer(Server):
     """A server whose allocations and threads can be refused, those of its start included."""
 
-    def __init__(self, program, library, *words, nth=0):
+    def __init__(self, program: str, library: str, *words: str, nth: int = 0) -> None:
         self.file = tempfile.TemporaryFile()
         self.file.truncate(16)
         self.control = mmap.mmap(self.file.fileno(), 16)
@@ -94,15 +94,15 @@ class RefusedServer(Server):
         env = {"LD_PRELOAD": library, "CONTROL": f"/proc/self/fd/{self.file.fileno()}"}
         super().__init__(program, *words, env=env, pass_fds=[self.file.fileno()])
 
-    def __exit__(self, *_):
+    def __exit__(self, *_: Any) -> None:
         super().__exit__()
         self.control.close()
         self.file.close()
 
-    def refuse(self, nth):
+    def refuse(self, nth: int) -> None:
         self.control[:] = struct.pack("ll", nth, 0)
 
-    def made(self):
+    def made(self) -> Any:
         """How many allocations and threads were made since; from here on none is refused."""
         _, count = struct.unpack("ll", self.control[:])
         self.control[:8] = struct.pack("l", 0)

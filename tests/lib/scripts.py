@@ -3,39 +3,41 @@
 A script is a name, the capacity of the outboxes, and steps: the session, the request, and the reply.
 """
 
+from typing import Any, Iterator, Tuple
+
 OK, ATOMIC, HERE = "ok", ("atomic", "ok"), ("ok", "nonode@nohost")
 
 
-def create(table):
+def create(table: Any) -> Tuple[Any, ...]:
     return ("create_table", table, [])
 
 
-def write(table, key, value):
+def write(table: Any, key: Any, value: Any) -> Tuple[Any, ...]:
     return ("write", (table, key, value))
 
 
-def watch(table, level, *dump):
+def watch(table: Any, level: str, *dump: Any) -> Tuple[Any, ...]:
     return ("subscribe", ("table", table, level), *dump)
 
 
-def unwatch(table, level):
+def unwatch(table: Any, level: str) -> Tuple[Any, ...]:
     return ("unsubscribe", ("table", table, level))
 
 
-def batch(commit, age, *records):
+def batch(commit: Any, age: Any, *records: Any) -> Tuple[Any, ...]:
     """The events of writes, at level simple."""
     return ("batch", commit, [("mnesia_table_event", ("write", record, ("tid", age))) for record in records])
 
 
-def began(table, level, *dump):
+def began(table: Any, level: str, *dump: Any) -> Tuple[Any, ...]:
     return ("mnesia_table_begin", table, level, *dump)
 
 
-def error(what):
+def error(what: Any) -> Tuple[Any, ...]:
     return ("error", what)
 
 
-def aborted(what):
+def aborted(what: Any) -> Tuple[Any, ...]:
     return ("aborted", what)
 
 
@@ -260,7 +262,7 @@ TWO_INDEXES = [
 
 # A bag and then a set with an index after each change: as its transaction sees them, which is aborted, and then as they are committed. A
 # change has the records that are found by the value 7, and those of key 1.
-def row(*numbers):
+def row(*numbers: Any) -> Tuple[Any, ...]:
     return ("b", *numbers)
 
 
@@ -289,7 +291,7 @@ SET_CHANGES = [
 READS = [("index_read", "b", 7, "v"), ("read", "b", 1)]
 
 
-def changed(kind, changes, age):
+def changed(kind: Any, changes: Any, age: Any) -> Iterator[Any]:
     yield 1, ("create_table", "b", [("type", kind), ("attributes", ["k", "v", "w"]), ("index", ["v"])]), ATOMIC
     yield 1, "begin", ("tid", age)
     for change, *found in changes:

@@ -16,6 +16,8 @@ from tests.lib.wire import Connection, Place, Term, frame
 PATIENCE, TO_END = 20.0, 60
 # What a session that has ended did is counted after so many seconds at most, and memory is given back after so many.
 COUNTED, SETTLED = 5.0, 0.3
+# The number of the system call, on x86-64.
+ACCEPT4 = "288"
 # A line that never comes would be waited for without an end.
 LONGEST = 250
 
@@ -111,6 +113,16 @@ class Server:
         while (found := self.held())[:2] != wanted and time.monotonic() < end:
             time.sleep(0.01)
         return found
+
+    def accepts(self) -> None:
+        """Once its first thread waits for a connection."""
+        end = time.monotonic() + PATIENCE
+        while time.monotonic() < end:
+            with open(f"/proc/{self.process.pid}/syscall", encoding="ascii") as file:
+                if file.read().split()[0] == ACCEPT4:
+                    return
+            time.sleep(0.001)
+        raise AssertionError("it accepts no connection")
 
     def used(self) -> float:
         """The seconds of a processor that it has used."""

@@ -9,7 +9,7 @@ import socket
 import threading
 import time
 from collections import deque
-from typing import Any, Deque, Dict, List, Set
+from typing import Any, Deque, Dict, List, Set, Tuple
 
 from tests.lib.wire import Connection, Term, frame, spell, term_of
 
@@ -20,7 +20,7 @@ OFTEN = 23
 class Link:
     """One client's connection, and its connection to the server."""
 
-    def __init__(self, wrong, client, port):
+    def __init__(self, wrong: Any, client: socket.socket, port: int) -> None:
         self.wrong, self.client, self.server = wrong, client, Connection(port, small=wrong.small).socket
         self.client.setsockopt(socket.IPPROTO_TCP, socket.TCP_NODELAY, 1)
         # The pending requests, the open levels, the keys that the transaction may have changed, the frames that are kept
@@ -31,7 +31,7 @@ class Link:
         # Whether it watches all at level detailed, so that the order of the commits is read off it.
         self.records = False
 
-    def run(self):
+    def run(self) -> Any:
         ends = {self.client: bytearray(), self.server: bytearray()}
         while True:
             for end in select.select(list(ends), [], [])[0]:
@@ -47,7 +47,7 @@ class Link:
                 except OSError:
                     return self.over(self.client)
 
-    def pass_on(self, end, data):
+    def pass_on(self, end: Any, data: Any) -> None:
         while len(data) >= 4 and len(data) >= (size := 4 + int.from_bytes(data[:4], "big")):
             term = term_of(bytes(data[:size]))
             del data[:size]
@@ -56,14 +56,14 @@ class Link:
             else:
                 self.told(term)
 
-    def asked(self, term):
+    def asked(self, term: Any) -> None:
         self.records |= term == ("subscribe", ("table", "t", "detailed"))
         request = self.wrong.asked(self, term)
         if request is not None:
             self.pending.append(term)
             self.server.sendall(frame(request))
 
-    def told(self, term):
+    def told(self, term: Any) -> None:
         if term[0] == "reply":
             request = self.pending.popleft()
             self.follow(request, term[1])
@@ -73,11 +73,11 @@ class Link:
         for one in self.wrong.told(self, term):
             self.client.sendall(frame(one))
 
-    def tell(self, reply):
+    def tell(self, reply: Any) -> None:
         """Answers a request that the server is not asked."""
         self.client.sendall(frame(("reply", reply)))
 
-    def follow(self, request, reply):
+    def follow(self, request: Any, reply: Any) -> None:
         if reply == "restart":
             self.depth, self.touched = 1, set()
         elif request[0] == "transaction":
@@ -89,7 +89,7 @@ class Link:
         if not self.depth:
             self.touched = set()
 
-    def over(self, end):
+    def over(self, end: Any) -> None:
         if end is self.client:
             self.wrong.gone(self)
         for one in (self.client, self.server):
@@ -106,14 +106,14 @@ class Wrong:
 
     small, spares = False, False
 
-    def __init__(self, port):
+    def __init__(self, port: int) -> None:
         self.port, self.count, self.lock = port, 0, threading.Lock()
         self.notes: Dict[Any, Any] = {}
         self.listener = socket.create_server(("127.0.0.1", 0))
         self.aside, self.aside_lock = Connection(port), threading.Lock()
         threading.Thread(target=self.accept, daemon=True).start()
 
-    def accept(self):
+    def accept(self) -> None:
         while True:
             try:
                 client, _ = self.listener.accept()
@@ -122,30 +122,30 @@ class Wrong:
                 return
             threading.Thread(target=link.run, daemon=True).start()
 
-    def now_and_then(self):
+    def now_and_then(self) -> bool:
         with self.lock:
             self.count += 1
             return self.count % OFTEN == 0
 
-    def asked(self, link, request):
+    def asked(self, link: Any, request: Any) -> Any:
         """What the server is asked, or None."""
         return request
 
-    def replied(self, link, request, term):
+    def replied(self, link: Any, request: Any, term: Any) -> Any:
         """The reply, or None."""
         return term
 
-    def told(self, link, term):
+    def told(self, link: Any, term: Any) -> List[Any]:
         """The frames that the client receives."""
         return [term]
 
-    def gone(self, link):
+    def gone(self, link: Any) -> None:
         """The client is gone."""
 
-    def hits(self, link, term):
+    def hits(self, link: Any, term: Any) -> Any:
         return is_event(term) and not (self.spares and link.records) and self.now_and_then()
 
-    def by_itself(self, link, request):
+    def by_itself(self, link: Any, request: Any) -> bool:
         """Reads outside of the client's transaction, if the reply is the same. Returns whether it did."""
         if link.pending or not link.depth:
             return False
@@ -157,33 +157,33 @@ class Wrong:
         return True
 
 
-def is_event(term):
+def is_event(term: Any) -> bool:
     return term[0] == "mnesia_table_event"
 
 
-def what_of(event):
+def what_of(event: Any) -> Tuple[Any, ...]:
     """The record, or table and key, of an event, and the age of its transaction."""
     body = event[1]
     return (body[1] if len(body) == 3 else body[2]), body[-1][1]
 
 
 class DropsAnEvent(Wrong):
-    def told(self, link, term):
+    def told(self, link: Any, term: Any) -> Any:
         return [] if self.hits(link, term) else [term]
 
 
 class DoublesAnEvent(Wrong):
-    def told(self, link, term):
+    def told(self, link: Any, term: Any) -> Any:
         return [term, term] if self.hits(link, term) else [term]
 
 
 class HoldsBack(Wrong):
     """Some frames come after the next one."""
 
-    def is_held(self, link, term):
+    def is_held(self, link: Any, term: Any) -> Any:
         return self.hits(link, term)
 
-    def told(self, link, term):
+    def told(self, link: Any, term: Any) -> List[Any]:
         held, link.held = link.held, []
         if not held and self.is_held(link, term):
             link.held = [term]
@@ -208,14 +208,14 @@ class SwapsASubscribersEvents(SwapsEvents):
 
 
 class TellsABatchBeforeItsMark(HoldsBack):
-    def is_held(self, link, term):
+    def is_held(self, link: Any, term: Any) -> Any:
         return term[0] == "mnesia_table_begin" and not link.records
 
 
 class TellsAnEventAfterTheEnd(Wrong):
     spares = True
 
-    def told(self, link, term):
+    def told(self, link: Any, term: Any) -> List[Any]:
         if term[0] == "mnesia_table_end":
             held, link.held = link.held, []
             return [term, *held]
@@ -226,18 +226,18 @@ class TellsAnEventAfterTheEnd(Wrong):
 
 
 class DropsWhatIsQueuedAtAnEnd(Wrong):
-    def asked(self, link, request):
+    def asked(self, link: Any, request: Any) -> Any:
         link.notes["ends"] = request[0] == "unsubscribe" or link.notes.get("ends")
         return request
 
-    def told(self, link, term):
+    def told(self, link: Any, term: Any) -> Any:
         if term[0] != "reply" and not is_event(term):
             link.notes["ends"] = False
         return [] if is_event(term) and link.notes.get("ends") else [term]
 
 
 class MergesWrites(Wrong):
-    def told(self, link, term):
+    def told(self, link: Any, term: Any) -> Any:
         held, link.held = link.held, []
         if held and is_event(term):
             (one, age), (other, its) = what_of(held[0]), what_of(term)
@@ -250,7 +250,7 @@ class MergesWrites(Wrong):
 
 
 class TellsOldRecordsOfBeforeTheCommit(Wrong):
-    def told(self, link, term):
+    def told(self, link: Any, term: Any) -> List[Any]:
         if not is_event(term) or len(term[1]) == 3:
             return [term]
         what, age = what_of(term)
@@ -260,21 +260,21 @@ class TellsOldRecordsOfBeforeTheCommit(Wrong):
 
 
 class GivesANewAgeAfterARestart(Wrong):
-    def replied(self, link, request, term):
+    def replied(self, link: Any, request: Any, term: Any) -> Any:
         if term[1] == "restart":
             self.notes[link.notes["age"]] = True
         if term[1][:1] == ("tid",):
             link.notes["age"] = term[1][1]
         return term
 
-    def told(self, link, term):
+    def told(self, link: Any, term: Any) -> List[Any]:
         if is_event(term) and what_of(term)[1] in self.notes:
             return [(term[0], (*term[1][:-1], ("tid", what_of(term)[1] + 10_000)))]
         return [term]
 
 
 class LosesAReadLock(Wrong):
-    def asked(self, link, request):
+    def asked(self, link: Any, request: Any) -> Any:
         if request[0] in ("write", "delete_object"):
             link.touched.add((request[1][0], spell(request[1][1])))
         if request[0] == "delete":
@@ -284,7 +284,7 @@ class LosesAReadLock(Wrong):
 
 
 class LooksAtATableWithoutALock(Wrong):
-    def asked(self, link, request):
+    def asked(self, link: Any, request: Any) -> Any:
         if request[0] in ("write", "delete", "delete_object"):
             link.touched.add(request[1][0])
         looks = request[0] in ("all_keys", "index_read") and request[-1] != "value" and not link.touched
@@ -292,19 +292,19 @@ class LooksAtATableWithoutALock(Wrong):
 
 
 class ReadsForAWriteByAReadLock(Wrong):
-    def asked(self, link, request):
+    def asked(self, link: Any, request: Any) -> Any:
         return ("read", *request[1]) if request[0] == "wread" else request
 
 
 class LosesATableLock(Wrong):
-    def asked(self, link, request):
+    def asked(self, link: Any, request: Any) -> Any:
         if request[0] in ("read_lock_table", "write_lock_table") and link.depth and not link.pending:
             return link.tell("ok")
         return request
 
 
 class KeepsNoLockOfWhatFailed(Wrong):
-    def asked(self, link, request):
+    def asked(self, link: Any, request: Any) -> Any:
         if request == ("delete", ("nosuch", 1)):
             return ("abort", ("no_exists", "nosuch"))
         if request[0] == "write" and len(request[1]) == 2:
@@ -313,14 +313,14 @@ class KeepsNoLockOfWhatFailed(Wrong):
 
 
 class LosesAWrite(Wrong):
-    def asked(self, link, request):
+    def asked(self, link: Any, request: Any) -> Any:
         if request[0] == "write" and len(request[1]) == 4 and link.depth and not link.pending and self.now_and_then():
             return link.tell("ok")
         return request
 
 
 class TellsAnOldRead(Wrong):
-    def replied(self, link, request, term):
+    def replied(self, link: Any, request: Any, term: Any) -> Any:
         if request[0] != "read" or not isinstance(term[1], list):
             return term
         key = request[1], spell(request[2])
@@ -331,7 +331,7 @@ class TellsAnOldRead(Wrong):
 class TellsAReaderAnOldRead(Wrong):
     """The reply to a one-shot that writes nothing is that of old tables."""
 
-    def replied(self, link, request, term):
+    def replied(self, link: Any, request: Any, term: Any) -> Any:
         if request[0] == "read" and isinstance(term[1], list):
             self.notes.setdefault((request[1], spell(request[2])), term[1])
         if request[0] != "transaction" or term[1][0] != "atomic" or any(part[0] != "read" for part in request[1]):
@@ -341,7 +341,7 @@ class TellsAReaderAnOldRead(Wrong):
 
 
 class CommitsWhatIsGone(Wrong):
-    def gone(self, link):
+    def gone(self, link: Any) -> None:
         try:
             link.server.sendall(frame("commit") * link.depth)
         except OSError:
@@ -349,22 +349,22 @@ class CommitsWhatIsGone(Wrong):
 
 
 class CommitsWhatIsAborted(Wrong):
-    def asked(self, link, request):
+    def asked(self, link: Any, request: Any) -> Any:
         return "commit" if request[0] == "abort" and link.depth == 1 and not link.pending else request
 
-    def replied(self, link, request, term):
+    def replied(self, link: Any, request: Any, term: Any) -> Any:
         return ("reply", ("aborted", request[1])) if request[0] == "abort" and term[1][0] == "atomic" else term
 
 
 class KeepsAChildThatIsAborted(Wrong):
-    def asked(self, link, request):
+    def asked(self, link: Any, request: Any) -> Any:
         return "commit" if request[0] == "abort" and link.depth > 1 and not link.pending else request
 
     replied = CommitsWhatIsAborted.replied
 
 
 class RestartsForNothing(Wrong):
-    def asked(self, link, request):
+    def asked(self, link: Any, request: Any) -> Any:
         if request[0] == "read" and link.depth == 1 and not link.pending and self.now_and_then():
             return link.tell("restart")
         return request
@@ -375,11 +375,11 @@ class TellsAnotherOverflow(Wrong):
 
     small = True
 
-    def asked(self, link, request):
+    def asked(self, link: Any, request: Any) -> Any:
         link.notes["late"] = request[0] == "subscribe" and len(request) == 3 or link.notes.get("late")
         return request
 
-    def told(self, link, term):
+    def told(self, link: Any, term: Any) -> Any:
         if link.notes.get("late") and is_event(term) and link.notes.get("naps", 0) < 2 and self.now_and_then():
             link.notes["naps"] = link.notes.get("naps", 0) + 1
             time.sleep(1)
@@ -389,14 +389,14 @@ class TellsAnotherOverflow(Wrong):
 class OverflowsWithRoomLeft(Wrong):
     """It ends a subscriber's subscriptions itself, and says that the next commit found its outbox full."""
 
-    def asked(self, link, request):
+    def asked(self, link: Any, request: Any) -> Any:
         if request[0] == "subscribe" and len(request) == 3:
             link.notes.setdefault("watched", []).append(request[1])
         if request[0] == "unsubscribe" and request[1] in link.notes.get("watched", []):
             link.notes["watched"].remove(request[1])
         return request
 
-    def replied(self, link, request, term):
+    def replied(self, link: Any, request: Any, term: Any) -> Any:
         if request == "own":
             return None
         if term[1][:1] == ("tid",):
@@ -405,7 +405,7 @@ class OverflowsWithRoomLeft(Wrong):
             self.notes[link.notes["age"]] = term[1][1]
         return term
 
-    def told(self, link, term):
+    def told(self, link: Any, term: Any) -> Any:
         if term[0] == "mnesia_table_end" and link.notes.get("ends"):
             link.notes["ends"] -= 1
             return []
@@ -423,7 +423,7 @@ class OverflowsWithRoomLeft(Wrong):
 
 
 class SplitsAOneShot(Wrong):
-    def asked(self, link, request):
+    def asked(self, link: Any, request: Any) -> Any:
         if request[0] != "transaction" or len(request[1]) < 2 or request[1][0][0] != "write" or not self.now_and_then():
             return request
         with self.aside_lock:
@@ -433,18 +433,18 @@ class SplitsAOneShot(Wrong):
             return (request[0], request[1][1:], request[2])
         return request
 
-    def replied(self, link, request, term):
+    def replied(self, link: Any, request: Any, term: Any) -> Any:
         first = link.notes.pop("first", []) if request[0] == "transaction" else []
         return ("reply", ("atomic", first + term[1][1])) if first and term[1][0] == "atomic" else term
 
 
 class ForgetsARecordOfADump(Wrong):
-    def told(self, link, term):
+    def told(self, link: Any, term: Any) -> Any:
         return [(*term[:3], term[3][:-1])] if term[0] == "mnesia_table_begin" and len(term) == 4 and term[3] else [term]
 
 
 class GivesANumberTwice(Wrong):
-    def replied(self, link, request, term):
+    def replied(self, link: Any, request: Any, term: Any) -> Any:
         if request == "commit" and isinstance(term[1][1], int) and self.now_and_then():
             return ("reply", ("atomic", term[1][1] - 1))
         return term
@@ -453,18 +453,18 @@ class GivesANumberTwice(Wrong):
 class OneAfterAnother(Wrong):
     """A transaction begins when the one before has ended."""
 
-    def asked(self, link, request):
+    def asked(self, link: Any, request: Any) -> Any:
         if request == "begin" and not link.depth and not link.pending:
             self.aside_lock.acquire()
             link.notes["alone"] = True
         return request
 
-    def replied(self, link, request, term):
+    def replied(self, link: Any, request: Any, term: Any) -> Any:
         if not link.depth:
             self.gone(link)
         return term
 
-    def gone(self, link):
+    def gone(self, link: Any) -> None:
         if link.notes.pop("alone", False):
             self.aside_lock.release()
 

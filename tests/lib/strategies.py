@@ -82,7 +82,7 @@ TABS, LEVELS = st.sampled_from(list(OPTIONS)), st.sampled_from(["simple", "detai
 WHO = st.integers(1, WATCHERS)
 WATCHED = st.tuples(st.just("table"), TABS, LEVELS)
 COMMITS = st.lists(st.sampled_from(updates(list(OPTIONS), [1, "a"], [0, 1])), max_size=3).map(lambda parts: ("transaction", parts, 0))
-# Session 0 commits, and makes and deletes tables; the others watch and take.
+# Session 0 commits, and creates and deletes tables; the others watch and take.
 WATCHING = st.lists(
     st.one_of(
         st.tuples(st.just(0), COMMITS),
@@ -94,6 +94,44 @@ WATCHING = st.lists(
     ),
     max_size=20,
 )
+
+
+PARTS = of_any(updates(*MEETING), looks(*MEETING), [("abort", "why")], failing([1]))
+ONE_SHOTS = st.lists(st.one_of(PARTS, st.lists(PARTS, max_size=3).map(lambda parts: ("transaction", parts))), max_size=4)
+ON_TABLES = [(name, tab, attribute) for name in ("add_table_index", "del_table_index") for tab in OPTIONS for attribute in ("value", 3, "key")]
+INFOS = list(itertools.product(["table_info"], [*OPTIONS, "no"], ["type", "attributes", "index", "size"]))
+MARKS = list(itertools.product(["unsubscribe"], itertools.product(["table"], [*OPTIONS, "no"], ["simple", "detailed"])))
+ANY = st.one_of(
+    of_any(updates(*MEETING), looks(*MEETING), failing([1]), [*ENDS, "retry", "take"]),
+    of_any(ENDS, ["take", "leave", *[("delete_table", tab) for tab in OPTIONS], *[("create_table", *it) for it in OPTIONS.items()]]),
+    of_any(ON_TABLES, INFOS, MARKS, [("subscribe", what) for _, what in MARKS], [("subscribe", what, "dump") for _, what in MARKS]),
+    st.tuples(st.just("transaction"), ONE_SHOTS, st.sampled_from([0, 1])),
+)
+ANY_STEPS = st.lists(st.tuples(st.integers(0, 2), ANY), max_size=24)
+
+
+def changed(request: Term) -> st.SearchStrategy[Term]:
+    """A request of which a part is another term, or which has one more."""
+    if not isinstance(request, tuple):
+        return terms(2)
+    return st.tuples(st.integers(0, len(request)), terms(2)).map(lambda it: (*request[: it[0]], it[1], *request[it[0] + 1 :]))
+
+
+@st.composite
+def encodings(draw: Any) -> bytes:
+    """Of requests, and of what is almost one."""
+    return otherwise(draw, draw(st.one_of(terms(3), ANY, ANY.flatmap(changed))))
+
+
+# Where a byte is taken away or put in, or what follows it is cut.
+DAMAGES = st.one_of(st.none(), st.tuples(st.integers(0, 60), st.sampled_from([0, 1, 60]), st.binary(max_size=1)))
+
+
+def damaged(payload: bytes, damage: Any) -> bytes:
+    if damage is None:
+        return payload
+    at, count, more = damage
+    return payload[:at] + more + payload[at + count :]
 
 
 def otherwise(draw: Callable[[Any], Any], term: Term) -> bytes:

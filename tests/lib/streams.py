@@ -1,6 +1,7 @@
 """Streams of `tabd replay` whose replies are known: those of streams.tsv, which another program made, and the scripts of scripts.py.
 
-Each has one reply frame for each request frame, in their order, so what a beginning of it is answered is known too.
+Each has one reply frame for each request frame, in their order, so the replies to a beginning of it are known too. test_streams.py compares them
+with those of the model of sessions.py.
 """
 
 import os
@@ -14,10 +15,10 @@ ROWS = os.path.join(os.path.dirname(os.path.abspath(__file__)), "streams.tsv")
 
 
 class Stream:
-    """A name, the program's arguments, the frames of input and output, and the incomplete frame at the end."""
+    """A name, the capacity of the outboxes, the words of the program, the frames of input and output, and bytes that follow and are no frame."""
 
-    def __init__(self, name: str, outbox: object, given: bytes, told: bytes, ended: str = "whole") -> None:
-        self.name, self.words = name, ["replay", "--outbox", str(outbox)]
+    def __init__(self, name: str, outbox: int, given: bytes, told: bytes, ended: str = "whole") -> None:
+        self.name, self.outbox, self.words = name, outbox, ["replay", "--outbox", str(outbox)]
         self.given, self.rest = frames_of(given)
         self.told, over = frames_of(told)
         if over or len(self.told) != len(self.given) or (ended == "damaged") != bool(self.rest):
@@ -50,7 +51,7 @@ def streams() -> Iterator[Stream]:
     with open(ROWS, encoding="utf-8") as file:
         rows: List[List[str]] = [line.rstrip("\n").split("\t") for line in file if line.strip() and not line.startswith("#")]
     for name, outbox, ended, given, told in rows:
-        yield Stream(name, outbox, bytes_of(given), bytes_of(told), ended)
+        yield Stream(name, int(outbox), bytes_of(given), bytes_of(told), ended)
     for script, capacity, steps in SCRIPTS:
         asked = b"".join(frame((session, request)) for session, request, _ in steps)
         yield Stream(script, capacity, asked, b"".join(frame((session, reply)) for session, _, reply in steps))
