@@ -27,7 +27,7 @@ pytestmark = pytest.mark.usefixtures("plain")
 SILENCE, LATE = 0.5, 0.2
 # So many waits at once, each for a lock of its own, in so many turns; their ends are watched by so many sessions. A session that waits asks for
 # its lock once more after twenty milliseconds, and the locks are free at about that time.
-WAITS, TURNS, WATCHERS, FREE = 8, 12, 2, (0.015, 0.025)
+WAITS, TURNS, WATCHERS, FREE = 8, 20, 2, (0.015, 0.025)
 ROUND = 0.6
 
 
