@@ -1,6 +1,8 @@
 //! Sessions join, take and leave.
 
 ghost use Rattle.std.specs.Prelude.{◌≡◌, IsTrue, IfOk, IsOk, OnErr};
+ghost use Rattle.tab_model.specs.State.{IsSound};
+ghost use Rattle.tab_model.specs.Reached.{IsRising};
 ghost use Rattle.tab_model.specs.declared.ask.Ask.TheVariants.{Join, Leave, Retry, Take};
 ghost use Rattle.tab_core.specs.Runs.{StepsTo};
 ghost use Rattle.tab_core.specs.Steps.{takes_no_memory};
@@ -41,8 +43,10 @@ impl<P: Post + Drop> Core<P> {
     }
 
     /// The next item of the session's post, else an overflow that is not reported yet. Takes no memory.
-    pub(crate) fn take(&mut self, session: u32) -> Stepped
+    pub fn take(&mut self, session: u32) -> Stepped
         ensures done { StepsTo self.old session Take result self.new }
+        ensures sound { IsSound self.new }
+        ensures rising { IsRising self.new }
     {
         let taken = self.machine.sessions.take(session as u64);
         taken_reply(taken)
