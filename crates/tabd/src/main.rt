@@ -11,14 +11,13 @@ mod socket_file;
 
 use lines::Lines;
 use running::run;
-use serving::Service;
 use std::marker::Brand;
 use std::process::ExitCode;
 use tab_etf::Counted;
 use tab_metrics::{About, Meters};
 use tab_post::Opened;
 use tab_session::{Ended, replay};
-use tab_words::{Log, Run, VERSION, asked};
+use tab_words::{Log, Run, Service, VERSION, asked};
 
 fn main(rt: HostRuntime) -> ExitCode {
     let mut input = Counted::new(rt.stdin());
