@@ -106,6 +106,7 @@ class Text(unittest.TestCase):
         page = samples(PAGE)
         self.assertEqual(page["tabd_commits_total"], 12)
         self.assertEqual(by_table(page, "tabd_table_records"), {"route": 3, 'a "b"': 4})
+        self.assertEqual(by_table(samples('tabd_table_records{table="a}\r \\"b"} 5\n'), "tabd_table_records"), {'a}\r "b': 5})
         self.assertIsNone(by_table(samples("tabd_tables 2\n"), "tabd_table_records"))
         self.assertEqual(by_table(samples("tabd_tables 0\n"), "tabd_table_records"), {})
 

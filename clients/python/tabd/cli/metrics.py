@@ -11,7 +11,7 @@ from typing import Dict, Optional
 from .common import Failure, Usage, address
 
 SECONDS = 5.0
-LINE = re.compile(r"([a-zA-Z_:][\w:]*)(\{[^}]*\})?\s+(\S+)")
+LINE = re.compile(r'([a-zA-Z_:][\w:]*)(\{(?:[^"}]|"(?:[^"\\]|\\.)*")*\})?\s+(\S+)')
 LABEL = re.compile(r'table="((?:[^"\\]|\\.)*)"')
 
 
@@ -46,7 +46,8 @@ def page_of(words: argparse.Namespace) -> Dict[str, float]:
 def samples(body: str) -> Dict[str, float]:
     """The samples of a page in the text that Prometheus reads."""
     found: Dict[str, float] = {}
-    for line in body.splitlines():
+    # A table's name may have any other line end in it.
+    for line in body.split("\n"):
         match = LINE.match(line)
         if match is not None and not line.startswith("#"):
             found[match.group(1) + (match.group(2) or "")] = float(match.group(3))
