@@ -22,23 +22,23 @@ closing-sync = search (sendable, crosses, declared_sync, as_row_sync) depth 20
 pub spawn-started-requires-send-F : goal.spawn-started-requires-send-F
 spawn-started-requires-send-F g c κs within =
     let H = copied 0 g.row.H in
-    let send = copied_send 0 g.row.H c.requires.1.1.0 in
-    let sync = copied_sync 0 g.row.H c.requires.1.1.1 in
+    let send = copied_send 0 g.row.H c.requires.1.1.1.0 in
+    let sync = copied_sync 0 g.row.H c.requires.1.1.1.1 in
     let sent = closure_send (ShrRef (named 5) κs.1.1.1.1.1.0 H ∷ _ ∷ ShrRef (named 6) κs.1.1.1.1.1.1.0 listener.the_row ∷ ShrRef (named 7) κs.1.1.1.1.1.1.1.0 (shared.the_row H g.H.Naming g.H.Host g.H.Wait g.H.Clone) ∷ ShrRef (named 8) κs.1.1.1.1.1.1.1.1.0 (param 2 g.row.G) ∷ ShrRef (named 9) κs.1.1.1.1.1.1.1.1.1.0 closing.the_row ∷ [])
-    (shr_send _ _ _ sync, (heap_send, (shr_send _ _ _ listener-sync, (shr_send _ _ _ (Shared-sync H g.H.Naming g.H.Host g.H.Wait g.H.Clone send), (shr_send _ _ _ (param_sync 2 g.row.G c.requires.1.1.2), (shr_send _ _ _ closing-sync, tt)))))) in
+    (shr_send _ _ _ sync, (heap_send, (shr_send _ _ _ listener-sync, (shr_send _ _ _ (Shared-sync H g.H.Naming g.H.Host g.H.Wait g.H.Clone send), (shr_send _ _ _ (param_sync 2 g.row.G c.requires.1.1.1.2), (shr_send _ _ _ closing-sync, tt)))))) in
     record { owned = sent.owned; leaving = sent.leaving }
 
 pub say_and_serve-end-requires-send-H : goal.say_and_serve-end-requires-send-H
 say_and_serve-end-requires-send-H g c κs within =
-    let sent = copied_send 0 g.row.H c.requires.1.1.0 in
+    let sent = copied_send 0 g.row.H c.requires.1.1.1.0 in
     record { owned = sent.owned; leaving = sent.leaving }
 
 pub say_and_serve-end-requires-sync-H : goal.say_and_serve-end-requires-sync-H
 say_and_serve-end-requires-sync-H g c κs within =
-    let seen = copied_sync 0 g.row.H c.requires.1.1.1 in
+    let seen = copied_sync 0 g.row.H c.requires.1.1.1.1 in
     record { shared = seen.shared }
 
 pub say_and_serve-end-requires-sync-G : goal.say_and_serve-end-requires-sync-G
 say_and_serve-end-requires-sync-G g c κs within =
-    let seen = param_sync 2 g.row.G c.requires.1.1.2 in
+    let seen = param_sync 2 g.row.G c.requires.1.1.1.2 in
     record { shared = seen.shared }
