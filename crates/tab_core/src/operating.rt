@@ -20,10 +20,10 @@ use crate::queue::{Request, find};
 use crate::step::Stepped;
 use std::alloc::{AllocError, Global};
 use tab_model::{Limit, Operation, Reply, SharedReply};
-use tab_operations::{Whole, needs, perform};
 use tab_outbox::Post;
 use tab_subs::Transaction;
 use tab_tables::Catalog;
+use tab_txstore::{Whole, needs, perform};
 use tab_waitdie::{Ages, Answer};
 
 /// What an operation was told, and whether it ended its transaction: by a failure at level 1.
@@ -111,7 +111,7 @@ impl<P: Post + Drop> Machine<P> {
             (state_with self.new ≡ state_with self.old) }
         ensures kept { IsKept (parts_of self.new) }
     {
-        let Some(place) = self.sessions.place(session as u64) else {
+        let Some(place) = self.sessions.place(session) else {
             return Ok(Stepped::without_entry(Reply::BadSession));
         };
         Ok(Stepped::told(self.retry_at(session, place)?))

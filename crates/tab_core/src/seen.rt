@@ -12,7 +12,7 @@ use tab_outbox::{Mailbox, Met, Post};
 
 impl<P: Post + Drop> Core<P> {
     /// Whether a session of this number is joined.
-    pub fn joined(&self, session: u64) -> bool
+    pub fn joined(&self, session: u32) -> bool
         ensures { result ≡ is_joined self.now session }
     {
         self.machine.sessions.place(session).is_some()
@@ -28,7 +28,7 @@ impl<P: Post + Drop> Core<P> {
     /// How the session's rest stands: whether it was restarted for a lock that is not free yet.
     pub fn rest(&self, session: u32) -> Rest {
         let sessions = &self.machine.sessions;
-        let Some(place) = sessions.place(session as u64) else {
+        let Some(place) = sessions.place(session) else {
             return Rest::Over;
         };
         match sessions.transaction(place) {
@@ -44,10 +44,8 @@ impl<P: Post + Drop> Core<P> {
         for place in 0..sessions.len() {
             if let Some(transaction) = sessions.transaction(place) {
                 if self.machine.ages.is_ready(transaction.age) {
-                    // There is a place for each session, and each number is of 32 bits.
-                    if let Ok(number) = u32::try_from(sessions.number(place)) {
-                        let _full = ready.try_push(number);
-                    }
+                    // There is a place for each session.
+                    let _full = ready.try_push(sessions.number(place));
                 }
             }
         }
@@ -77,6 +75,13 @@ impl<P: Post + Drop> Core<P> {
         self.machine.greatest
     }
 
+    /// How many outermost transactions were committed.
+    pub fn commits(&self) -> u64
+        ensures { result ≡ self.now.commits }
+    {
+        self.machine.commits
+    }
+
     /// How many levels the session has open, up to the greatest 64 bit number.
     pub fn levels(&self, session: u32) -> u64
         ensures { result ≡ min (levels_of self.now session) (2 ^ 64 - 1) }
@@ -89,7 +94,7 @@ impl<P: Post + Drop> Core<P> {
         ensures { option_map (λ p. P.outbox p.now) result
             ≡ option_map (λ s. s.outbox) (session_at self.now.sessions session) }
     {
-        self.machine.sessions.post(session as u64)
+        self.machine.sessions.post(session)
     }
 
     /// The number of the session's overflow, where it was not told yet. None of one that isn't joined.
@@ -97,7 +102,7 @@ impl<P: Post + Drop> Core<P> {
         ensures { MatchOption (session_at self.now.sessions session) (result ≡ None)
             (λ s. result ≡ s.overflow) }
     {
-        self.machine.sessions.overflow(session as u64)
+        self.machine.sessions.overflow(session)
     }
 }
 
@@ -110,6 +115,6 @@ impl<P: Mailbox + Drop> Core<P> {
         ensures met { Meets (option_map (λ s. s.outbox) (session_at self.old.sessions session))
             (P.mailbox end.old) (P.taken end.old) result (P.taken end.new) }
     {
-        self.machine.sessions.meet(session as u64, end)
+        self.machine.sessions.meet(session, end)
     }
 }

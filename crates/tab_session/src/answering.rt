@@ -107,7 +107,7 @@ fn join_refusal(core: &Core<RingPost>, session: u32) -> Option<Reply>
     ensures { MatchOption result (JoinTakesMemory core.now session)
         (IsJoinRefused core.now session) }
 {
-    if core.joined(u64::from(session)) {
+    if core.joined(session) {
         return Some(Reply::BadSession);
     }
     if session <= core.greatest() {

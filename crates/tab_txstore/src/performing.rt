@@ -8,12 +8,12 @@ ghost use Rattle.tab_txstore.specs.Stores.{store_next, Fits};
 
 use crate::answering::answered;
 use crate::asked::table_of;
+use crate::store::TxStore;
 use crate::whole::Whole;
 use std::alloc::{AllocError, Global};
 use tab_model::{Operation, Reply, SharedReply};
 use tab_tables::Catalog;
 use tab_term::Atom;
-use tab_txstore::TxStore;
 
 /// Performs an operation of a transaction on tables that it is lent: what it answers on them as the transaction sees them,
 /// and its trace and what it changes in the store. The tables stay as they are. What is answered stands once, for the caller and
@@ -39,7 +39,7 @@ pub fn perform(
         return fail(alloc, store, asked, name);
     };
     let answer = answered(alloc, store, committed, &asked.value)?;
-    let (reply, logged) = SharedReply::pair(alloc, answer.into_reply())?;
+    let (reply, logged) = SharedReply::pair(alloc, answer)?;
     store.make(alloc, committed, asked.into_value(), logged)?;
     Ok(reply)
 }

@@ -3,22 +3,11 @@
 use Rattle.std.specs.Prelude.{◌≡◌, Some}
 use Rattle.tab_model.specs.declared.data.Operation.{Operation}
 use Rattle.tab_model.specs.declared.data.Reply.{Reply}
-use Rattle.tab_model.specs.declared.data.Reply.TheVariants as reply
 use Rattle.tab_model.specs.Operations.{failure_at, answer_or}
 use Rattle.tab_model.specs.Tables.{Rows}
 use Rattle.tab_model.specs.Catalogs.{Table, with_rows}
 use Rattle.tab_txstore.specs.Merged.{IsSeen}
 use Rattle.tab_txstore.specs.Overlays.{Touched}
-use Rattle.tab_operations.specs.declared.answering.Answer.{Answer}
-use Rattle.tab_operations.specs.declared.answering.Answer.TheVariants as answer
-
--- an answer of the program as a reply
-abbrev pub reply_of : Answer → Reply
-reply_of answer.Done = reply.Done
-reply_of (answer.Found ts) = reply.Found ts
-reply_of (answer.NoTable t) = reply.NoTable t
-reply_of (answer.BadType t r) = reply.BadType t r
-reply_of (answer.NoIndex t a) = reply.NoIndex t a
 
 -- the reply of an operation on one table, failures too
 abbrev pub replied : Table → Operation → Reply

@@ -15,7 +15,7 @@ use Rattle.tab_txstore.specs.Merged.{IsSeen}
 use Rattle.tab_txstore.specs.Overlays.{Touched, touched}
 use Rattle.tab_txstore.specs.Stores.{Store, Fits}
 use Rattle.tab_txstore.proofs.FitsLemmas.{table_shown, defs_shown}
-use Rattle.tab_operations.specs.Answers.{Answers, replied}
+use Rattle.tab_txstore.specs.Answers.{Answers, replied}
 
 some_same : {A : Type 0} (a b : A) → Some a ≡ Some b → a ≡ b
 some_same a b h = cc
