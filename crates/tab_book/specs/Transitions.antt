@@ -7,8 +7,8 @@ use Rattle.tab_model.specs.declared.ask.Ask.TheVariants.{Leave}
 use Rattle.tab_model.specs.Outcome.{Ask}
 use Rattle.tab_model.specs.Standing.{levels_of}
 use Rattle.tab_model.specs.State.{State}
-use Rattle.tab_book.specs.declared.step.Ended.{Ended}
-use Rattle.tab_book.specs.declared.step.Ended.TheVariants as ended
+use Rattle.tab_book.specs.declared.step.TransactionEnd.{TransactionEnd}
+use Rattle.tab_book.specs.declared.step.TransactionEnd.TheVariants as ended
 use Rattle.tab_book.specs.declared.step.Transition.{Transition}
 
 -- a session leaves
@@ -26,7 +26,7 @@ abbrev pub counted_levels : State → ℕ → ℕ
 counted_levels σ n = min (levels_of σ n) (2 ^ 64 - 1)
 
 -- how the outermost transaction ended, if it was open and did: it is committed exactly where the number of commits rose
-abbrev pub ended_by : ℕ → ℕ → Bool → Bool → Bool → Option Ended
+abbrev pub ended_by : ℕ → ℕ → Bool → Bool → Bool → Option TransactionEnd
 ended_by before after committed leaves restarts =
     if before == 0 then None
     else if committed then Some ended.Commit

@@ -10,7 +10,7 @@ pub type Step = Ask<Infallible>;
 
 /// How the outermost transaction of a session ended.
 #[derive(Clone, Copy, Debug, PartialEq, Eq)]
-pub enum Ended {
+pub enum TransactionEnd {
     /// It is committed.
     Commit,
     /// Nothing of it is kept.
@@ -27,7 +27,7 @@ pub enum Ended {
 pub struct Transition {
     pub before: u64,
     pub after: u64,
-    pub ended: Option<Ended>,
+    pub ended: Option<TransactionEnd>,
 }
 
 /// The reply to a step, whether it released locks or a queued request while another session waits or rests, so that others may

@@ -14,7 +14,7 @@ ghost use Rattle.tab_journal.specs.Journals.{is_full};
 ghost use Rattle.tab_book.specs.Steps.{ask_of, leaves as leaves_of, folded, oldest_joined as oldest_joined_of, with_entries, FoldsWhileFull, StepsFrom, StepsTo, MayFold, KeepsPosts};
 
 use crate::book::Book;
-use crate::step::{Answered, Ended, Step, Transition};
+use crate::step::{Answered, Step, TransactionEnd, Transition};
 use std::alloc::AllocError;
 use tab_core::Stepped;
 use tab_journal::Journal;
@@ -116,13 +116,13 @@ impl<H: Host> Book<H> {
         let ended = if before.levels == 0 {
             None
         } else if before.commits < self.core.commits() {
-            Some(Ended::Commit)
+            Some(TransactionEnd::Commit)
         } else if leaves {
-            Some(Ended::Leave)
+            Some(TransactionEnd::Leave)
         } else if after == 0 {
-            Some(Ended::Abort)
+            Some(TransactionEnd::Abort)
         } else if matches!(reply, Reply::Restart) {
-            Some(Ended::Restart)
+            Some(TransactionEnd::Restart)
         } else {
             None
         };

@@ -1,7 +1,7 @@
 //! What became of a session's transactions, as it is counted.
 
 use crate::gate::{Count, Counts};
-use tab_book::{Ended, Transition};
+use tab_book::{TransactionEnd, Transition};
 
 /// What the steps of one hold of the book did to the session's transactions. It is counted after the hold, so that the book is
 /// not locked meanwhile.
@@ -34,9 +34,11 @@ impl Transactions {
         }
         self.open = transaction.after > 0;
         match transaction.ended {
-            Some(Ended::Commit) => self.commits = self.commits.saturating_add(1),
-            Some(Ended::Abort | Ended::Leave) => self.aborts = self.aborts.saturating_add(1),
-            Some(Ended::Restart) | None => {}
+            Some(TransactionEnd::Commit) => self.commits = self.commits.saturating_add(1),
+            Some(TransactionEnd::Abort | TransactionEnd::Leave) => self.aborts = self
+                .aborts
+                .saturating_add(1),
+            Some(TransactionEnd::Restart) | None => {}
         }
     }
 

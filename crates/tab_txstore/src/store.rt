@@ -9,7 +9,7 @@ ghost use Rattle.tab_txstore.specs.Merged.{IsSnapshot};
 ghost use Rattle.tab_txstore.specs.Overlays.{touched, seen_at};
 ghost use Rattle.tab_txstore.specs.Stores.{no_store, store_next};
 
-use crate::levels::Levels;
+use crate::levels::TxLevels;
 use std::alloc::{AllocError, Global};
 use std::marker::Model;
 use tab_index::IndexedTable;
@@ -27,7 +27,7 @@ pub struct TxStore {
     told: Vec<Option<LoggedReply>>,
     // Of the moves, those that count towards the limit.
     count: usize,
-    levels: Levels,
+    levels: TxLevels,
 }
 
 impl Model for TxStore {
@@ -104,7 +104,7 @@ impl TxStore {
             moves: Vec::new(alloc),
             told: Vec::new(alloc),
             count: 0,
-            levels: Levels::new(alloc),
+            levels: TxLevels::new(alloc),
         }
     }
 

@@ -3,7 +3,7 @@ use Rattle.std.specs.Prelude.{Some}
 use Rattle.tab_txstore.specs.Stores.{Levels, changed}
 use Rattle.tab_txstore.specs.Kept.{levels_onto}
 use Rattle.tab_txstore.proofs.KeptLemmas.{touch_rises, touch_levels}
-use Rattle.tab_txstore.proofs.levels.Levels.change.Goals as goal
+use Rattle.tab_txstore.proofs.levels.TxLevels.change.Goals as goal
 
 pub invariant_of-self-2 : goal.invariant_of-self-2
 invariant_of-self-2 c =

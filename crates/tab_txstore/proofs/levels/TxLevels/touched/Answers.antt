@@ -3,7 +3,7 @@ use Rattle.tab_term.specs.Order.{bytes_cmp}
 use Rattle.tab_map.specs.Entries.{lookup}
 use Rattle.tab_model.specs.declared.data.TableDef.{TableDef}
 use Rattle.tab_txstore.specs.Stores.{Levels}
-use Rattle.tab_txstore.proofs.levels.Levels.touched.Goals as goal
+use Rattle.tab_txstore.proofs.levels.TxLevels.touched.Goals as goal
 
 pub returns : goal.returns
 returns c =
