@@ -1,14 +1,15 @@
 //! What a core's sessions are, as its caller sees them.
 
-ghost use Rattle.std.specs.Prelude.{◌≡◌, ◌^◌, ◌-◌, ◌&&◌, [], None, MatchOption, IsFalse, length, min, nat_lt, option_map};
+ghost use Rattle.std.specs.Prelude.{◌≡◌, ◌^◌, ◌-◌, ◌&&◌, [], None, MatchOption, IsFalse, count_by, is_some, length, min, nat_lt, option_map};
 ghost use Rattle.tab_model.specs.Standing.{is_joined, levels_of};
-ghost use Rattle.tab_model.specs.State.{is_waiting, session_at};
+ghost use Rattle.tab_model.specs.State.{is_waiting, level_in, session_at};
 ghost use Rattle.tab_outbox.specs.Mailboxes.{Meets};
 
 use crate::machine::SESSIONS;
 use crate::{Core, Rest};
 use arrayvec::ArrayVec;
 use tab_outbox::{Mailbox, Met, Post};
+use tab_term::Atom;
 
 impl<P: Post + Drop> Core<P> {
     /// Whether a session of this number is joined.
@@ -66,6 +67,14 @@ impl<P: Post + Drop> Core<P> {
             (length self.now.sessions) self.now.limits.sessions) }
     {
         self.machine.admits(session)
+    }
+
+    /// How many sessions watch the table.
+    pub fn watchers(&self, table: &Atom) -> usize
+        ensures { result
+            ≡ count_by (λ s. is_some (level_in s.watching table.now)) self.now.sessions }
+    {
+        self.machine.sessions.watchers(table)
     }
 
     /// The greatest number that has joined.

@@ -1,6 +1,6 @@
 //! All sessions, each with its transaction, its subscriptions and its post.
 
-ghost use Rattle.std.specs.Prelude.{◌≡◌, ◌<◌, ◌∷◌, ◌++◌, [], Some, None, IfOk, OnOk, OnErr, MatchOption, length, map, option_map, option_to_list, slice_index_or};
+ghost use Rattle.std.specs.Prelude.{◌≡◌, ◌<◌, ◌∷◌, ◌++◌, [], Some, None, IfOk, OnOk, OnErr, MatchOption, length, map, count_by, is_some, option_map, option_to_list, slice_index_or};
 ghost use Rattle.std.specs.Borrow.{sem};
 ghost use Rattle.tab_model.specs.Slices.{batch_for, end_for};
 ghost use Rattle.tab_model.specs.State.{level_in, without_watch};
@@ -309,6 +309,16 @@ impl<P: Post + Drop> Subs<P> {
             return None;
         };
         self.sessions[place].overflow()
+    }
+
+    /// How many sessions watch the table.
+    pub fn watchers(&self, table: &Atom) -> usize
+        ensures { result ≡ count_by (λ s. is_some (level_in s.watching table.now)) self.now }
+    {
+        self.sessions
+            .iter()
+            .filter(|slot| slot.level(table).is_some())
+            .count()
     }
 
     /// Whether a session watches the table.
