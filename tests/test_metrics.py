@@ -181,7 +181,10 @@ def test_watchers_of_each_table(server: Metered) -> None:
     clients = [server.connect() for _ in range(3)]
     for name in ("t", "u"):
         script((clients[0], ("create_table", name, []), ATOMIC))
-    watchers = lambda: server.samples()["table_watchers"]
+
+    def watchers() -> Any:
+        return server.samples()["table_watchers"]
+
     assert watchers() == {'table="t"': 0, 'table="u"': 0}
     script(*((client, watch(), HERE_OK) for client in clients), (clients[1], ("subscribe", ("table", "u", "detailed")), HERE_OK))
     assert watchers() == {'table="t"': 3, 'table="u"': 1}

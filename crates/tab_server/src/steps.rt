@@ -19,6 +19,10 @@ use tab_post::Host;
 /// has to be told `restart` while the other's transaction is open.
 const NAPS: u32 = 5;
 
+/// So many a one-shot rests before its next attempt. Its client is not told of a restart, so it need not ask again soon: it is
+/// woken when its lock is free. Each attempt ends in time, since their number may be limited.
+const ONE_SHOT_NAPS: u32 = 50;
+
 /// What ends a request's wait besides its lock.
 #[derive(Clone, Copy, Debug, PartialEq, Eq)]
 pub enum Behind {
@@ -59,9 +63,15 @@ impl<'a, H: Host, W: Write, G: Gate> Requests<'a, H, W, G> {
             return SharedReply::new(Reply::NoMemory);
         };
         if matches!(told.reply(), Reply::Restart) {
-            self.again();
+            self.restarted(NAPS);
         }
         told
+    }
+
+    /// A restart is counted, and the transaction rests for so many naps at most.
+    fn restarted(&mut self, naps: u32) {
+        self.answers.counts().count(Count::Restarts, 1);
+        self.rest(naps);
     }
 
     fn one_shot(&mut self, command: Command) -> SharedReply {
@@ -109,7 +119,7 @@ impl<'a, H: Host, W: Write, G: Gate> Requests<'a, H, W, G> {
     }
 
     /// Who was restarted rests until its lock is free. The stream is watched after the first nap.
-    fn rest(&mut self) {
+    fn rest(&mut self, naps: u32) {
         if matches!(self.held.rest(&self.seat), Rest::Over | Rest::Free) {
             return;
         }
@@ -118,7 +128,7 @@ impl<'a, H: Host, W: Write, G: Gate> Requests<'a, H, W, G> {
             return;
         }
         self.watch.begin(self.host, false);
-        let _over = self.shared.rest(self.host, &self.seat, NAPS - 1);
+        let _over = self.shared.rest(self.host, &self.seat, naps.saturating_sub(1));
         self.watch.end(self.host);
     }
 
@@ -172,7 +182,6 @@ impl<'a, H: Host, W: Write, G: Gate> Steps for Requests<'a, H, W, G> {
     }
 
     fn again(&mut self) {
-        self.answers.counts().count(Count::Restarts, 1);
-        self.rest();
+        self.restarted(ONE_SHOT_NAPS);
     }
 }
