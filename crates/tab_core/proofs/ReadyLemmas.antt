@@ -92,55 +92,56 @@ listed_none m ns k b is ready h =
 
 -- ---- all places
 
+abbrev IsFirst : ℕ → List Subscriber → ℕ → Type 0
+IsFirst n ss i = (i < length ss) × (list_any (λ x. x.number == n) (take i ss) ≡ false) × (((get_or ss i nobody).number == n) ≡ true)
+
+find_first : (n : ℕ) (ss : List Subscriber) (s : Subscriber) → at ss n ≡ Some s → (i : ℕ) × IsFirst n ss i
+find_first n [] s h = cc
+find_first n (x ∷ ss) s h = by (find_first n ss s) (x.number == n) refl h
+  where
+    by : (at ss n ≡ Some s → (i : ℕ) × IsFirst n ss i) → (b : Bool) → (x.number == n) ≡ b → (if b then Some x else at ss n) ≡ Some s → (i : ℕ) × IsFirst n (x ∷ ss) i
+    by later true e g = (0, (omega arith, refl, e))
+    by later false e g = let r = later g in let lt = r.1.0 in (suc r.0, (omega (arith, lt), ap (λ b. b || list_any (λ x. x.number == n) (take r.0 ss)) e ∙ r.1.1, r.1.2))
+
+any_default : (ss : List Subscriber) (i : ℕ) (d e : Subscriber) → i < length ss → get_or ss i d ≡ get_or ss i e
+any_default [] i d e lt = absurd (omega (arith, lt))
+any_default (x ∷ ss) zero d e lt = refl
+any_default (x ∷ ss) (suc i) d e lt = any_default ss i d e (omega (arith, lt))
+
 -- the first place of a session
 first : (n : ℕ) (ss : List Subscriber) (s : Subscriber) → at ss n ≡ Some s → (i : ℕ) × IsHeldAt ss n i
-first n ss s h = let f = find n ss s h in (f.0, stands n ss f.0 (get_or ss f.0 nobody) f.1 f.2 (within ss f.0 nobody f.1) f.3)
-  where
-    within : (ss : List Subscriber) (i : ℕ) (d : Subscriber) → i < length ss → get_or ss i d ≡ get_or ss i (get_or ss i d)
-    within [] i d lt = absurd (omega (arith, lt))
-    within (x ∷ ss) zero d lt = refl
-    within (x ∷ ss) (suc i) d lt = swapped ss i d (get_or ss i d) (omega (arith, lt))
-      where
-        swapped : (ss : List Subscriber) (i : ℕ) (d e : Subscriber) → i < length ss → get_or ss i d ≡ get_or ss i e
-        swapped [] i d e lt = absurd (omega (arith, lt))
-        swapped (x ∷ ss) zero d e lt = refl
-        swapped (x ∷ ss) (suc i) d e lt = swapped ss i d e (omega (arith, lt))
+first n ss s h =
+    let f = find_first n ss s h in
+    (f.0, stands n ss f.0 (get_or ss f.0 nobody) f.1.0 f.1.1 (any_default ss f.0 nobody (get_or ss f.0 nobody) f.1.0) f.1.2)
 
-    find : (n : ℕ) (ss : List Subscriber) (s : Subscriber) → at ss n ≡ Some s → (i : ℕ) × (i < length ss) × (list_any (λ x. x.number == n) (take i ss) ≡ false) × (((get_or ss i nobody).number == n) ≡ true)
-    find n [] s h = cc
-    find n (x ∷ ss) s h = by (x.number == n) refl h
-      where
-        by : (b : Bool) → (x.number == n) ≡ b → (if b then Some x else at ss n) ≡ Some s → (i : ℕ) × (i < length (x ∷ ss)) × (list_any (λ x. x.number == n) (take i (x ∷ ss)) ≡ false) × (((get_or (x ∷ ss) i nobody).number == n) ≡ true)
-        by true e g = (0, omega arith, refl, e)
-        by false e g = let r = find n ss s g in (suc r.0, omega (arith, r.1), ap (λ b. b || list_any (λ x. x.number == n) (take r.0 ss)) e ∙ r.2, r.3)
+module _ (m : Parts) (k : IsKept m) (n : ℕ) (q : request.Request) (asked : request_in (map queued_of m.queue.items) n ≡ Some (queued_of q)) (can : can_retry (ages_of (state_of m)) (q.age, needs q.operation) ≡ true) (ns : List ℕ) where
+  module _ (i : ℕ) (there : IsHeldAt m.sessions n i) (listed : IsListed m ns i) where
+    abbrev r : operating.IsRequest m n i k there q
+    r = operating.requested m n i k there q asked
+
+    can_too : can_retry m.ages (q.age, needs q.operation) ≡ true
+    can_too =
+        sym (operating.may m n i k there q asked (can_retry m.ages (q.age, needs q.operation)) refl)
+        ∙ ap (λ a. can_retry (ages_of (state_of m)) (a, needs q.operation)) r.age ∙ can
+
+    at_place : IfSome (Some r.transaction) (λ t. IfSome (request_of t.age m.ages.queue) (λ x. can_retry m.ages x ≡ true → has_session ns (the_session m n i).number ≡ true))
+    at_place = subst (λ o. IfSome o (λ (t : kept.Transaction). IfSome (request_of t.age m.ages.queue) (λ x. can_retry m.ages x ≡ true → has_session ns (the_session m n i).number ≡ true))) r.open_t listed
+
+    here : has_session ns (the_session m n i).number ≡ true
+    here = subst (λ o. IfSome o (λ x. can_retry m.ages x ≡ true → has_session ns (the_session m n i).number ≡ true)) (ap (λ a. request_of a m.ages.queue) r.age ∙ r.request) at_place can_too
+
+  owner : plain.HasAge (plain.transaction_at (state_of m) n) q.age
+  owner = request_age (plain.transaction_at (state_of m)) n (map queued_of m.queue.items) (queued_of q) k.owners asked
+
+  request_listed : (last : ℕ) → length m.sessions ≤ last → AreListed m ns last → has_session ns n ≡ true
+  request_listed last past listed = by (at m.sessions n) refl
+    where
+      by : (o : Option Subscriber) → at m.sessions n ≡ o → has_session ns n ≡ true
+      by None e = absurd (subst (λ o. plain.HasAge (plain.transaction_in o) q.age) (at_of m.sessions n ∙ ap (option_map session_of) e) owner)
+      by (Some s) e =
+          let p = first n m.sessions s e in
+          let w = p.1.within in
+          subst (λ a. has_session ns a ≡ true) (p.1.number nobody) (here p.0 p.1 (listed p.0 (omega (arith, w, past))))
 
 pub all_ready : (m : Parts) (k : IsKept m) (ns : List ℕ) (last : ℕ) → length m.sessions ≤ last → AreListed m ns last → AreReady (state_of m) ns
-all_ready m k ns last past listed n q asked can = by (at m.sessions n) refl
-  where
-    request : request.Request
-    request = record { session = q.session; age = q.age; operation = q.operation }
-
-    owner : plain.HasAge (plain.transaction_at (state_of m) n) q.age
-    owner = request_age (plain.transaction_at (state_of m)) n (map queued_of m.queue.items) q k.owners asked
-
-    module _ (i : ℕ) (there : IsHeldAt m.sessions n i) where
-      r : operating.IsRequest m n i k there request
-      r = operating.requested m n i k there request asked
-
-      can_too : can_retry m.ages (q.age, needs q.operation) ≡ true
-      can_too =
-          sym (operating.may m n i k there request asked (can_retry m.ages (q.age, needs q.operation)) refl)
-          ∙ ap (λ a. can_retry (ages_of (state_of m)) (a, needs q.operation)) r.age ∙ can
-
-      at_place : IfSome (Some r.transaction) (λ t. IfSome (request_of t.age m.ages.queue) (λ x. can_retry m.ages x ≡ true → has_session ns (the_session m n i).number ≡ true))
-      at_place =
-          subst (λ o. IfSome o (λ (t : kept.Transaction). IfSome (request_of t.age m.ages.queue) (λ x. can_retry m.ages x ≡ true → has_session ns (the_session m n i).number ≡ true))) r.open_t
-          (listed i (let w = there.within in omega (arith, w, past)))
-
-      here : has_session ns (the_session m n i).number ≡ true
-      here =
-          subst (λ o. IfSome o (λ x. can_retry m.ages x ≡ true → has_session ns (the_session m n i).number ≡ true)) (ap (λ a. request_of a m.ages.queue) r.age ∙ r.request) at_place can_too
-
-    by : (o : Option Subscriber) → at m.sessions n ≡ o → has_session ns n ≡ true
-    by None e = absurd (subst (λ o. plain.HasAge (plain.transaction_in o) q.age) (at_of m.sessions n ∙ ap (option_map session_of) e) owner)
-    by (Some s) e = let p = first n m.sessions s e in subst (λ a. has_session ns a ≡ true) (p.1.number nobody) (here p.0 p.1)
+all_ready m k ns last past listed n q asked can = request_listed m k n (record { session = q.session; age = q.age; operation = q.operation }) asked can ns last past listed

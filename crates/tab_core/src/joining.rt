@@ -1,6 +1,6 @@
 //! Sessions join and leave.
 
-ghost use Rattle.std.specs.Prelude.{◌≡◌, ◌^◌, ◌-◌, ◌&&◌, [], IsFalse, IfOk, IsOk, IsTrue, OnErr, length, min, nat_lt};
+ghost use Rattle.std.specs.Prelude.{◌≡◌, ◌<◌, ◌^◌, ◌-◌, ◌&&◌, [], IsFalse, IfOk, IsOk, IsTrue, OnErr, length, min, nat_lt};
 ghost use Rattle.tab_model.specs.declared.ask.Ask.TheVariants.{Join, Leave};
 ghost use Rattle.tab_model.specs.Standing.{levels_of};
 ghost use Rattle.tab_model.specs.State.{is_waiting};
@@ -41,9 +41,10 @@ impl<P: Post + Drop> Machine<P> {
     {
         let mut ready = ArrayVec::new();
         for place in 0..self.sessions.len() {
-            if self.is_ready(place) {
-                ready.push(self.sessions.number(place));
+            if !self.is_ready(place) {
+                continue;
             }
+            ready.push(self.sessions.number(place));
         }
         ready
     }
