@@ -294,7 +294,6 @@ def test_a_wrong_program_is_found_by_a_one_shot_of_a_stream(replay: Any, wrong: 
     assert faults_in_stream(replay, case, **wrong)
 
 
-
 @pytest.mark.wrong
 @pytest.mark.parametrize("case", BEGUN, ids=[case.name for case in BEGUN])
 @pytest.mark.parametrize("left", LEAVES)
