@@ -176,6 +176,24 @@ def test_each_table(server: Metered) -> None:
     assert 'table="t"' not in server.samples()["table_records"], "a table that is deleted"
 
 
+def test_watchers_of_each_table(server: Metered) -> None:
+    """How many sessions watch each table: those that subscribed and did not unsubscribe, and whose table was not deleted."""
+    clients = [server.connect() for _ in range(3)]
+    for name in ("t", "u"):
+        script((clients[0], ("create_table", name, []), ATOMIC))
+
+    def watchers() -> Any:
+        return server.samples()["table_watchers"]
+
+    assert watchers() == {'table="t"': 0, 'table="u"': 0}
+    script(*((client, watch(), HERE_OK) for client in clients), (clients[1], ("subscribe", ("table", "u", "detailed")), HERE_OK))
+    assert watchers() == {'table="t"': 3, 'table="u"': 1}
+    script((clients[2], ("unsubscribe", ("table", "t", "simple")), HERE_OK))
+    assert watchers() == {'table="t"': 2, 'table="u"': 1}
+    script((clients[0], ("delete_table", "u"), ATOMIC))
+    assert watchers() == {'table="t"': 2}
+
+
 def test_refused_connections(server: Metered) -> None:
     """How many may be served at once, how many were refused, and the version."""
     served = [server.connect() for _ in range(4)]

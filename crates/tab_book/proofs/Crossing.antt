@@ -39,7 +39,7 @@ use Rattle.tab_rows.specs.contracts.rows.Rows as rows
 use Rattle.tab_rows.specs.contracts.update.Update as update
 use Rattle.tab_index.specs.contracts.table.IndexedTable as table
 use Rattle.tab_tables.specs.contracts.catalog.Catalog as catalog
-use Rattle.tab_txstore.specs.contracts.levels.Levels as levels
+use Rattle.tab_txstore.specs.contracts.levels.TxLevels as levels
 use Rattle.tab_txstore.specs.contracts.store.TxStore as store
 use Rattle.tab_locks.specs.contracts.lock_table.LockTable as locks
 use Rattle.tab_locks.specs.contracts.index.Index as places

@@ -2,3 +2,4 @@ pub mod Running
 pub mod Steps
 pub mod Inboxes
 pub mod Releases
+pub mod Transitions

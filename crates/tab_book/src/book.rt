@@ -1,8 +1,8 @@
 //! A core over mailboxes, and its journal.
 
-ghost use Rattle.std.specs.Prelude.{◌≡◌, ◌≤◌, ◌+◌, [], IsTrue, IfOk, IfErr, OnOk, OnErr};
+ghost use Rattle.std.specs.Prelude.{◌≡◌, ◌≤◌, ◌+◌, [], IsTrue, IfOk, IfErr, OnOk, OnErr, count_by, is_some};
 ghost use Rattle.tab_model.specs.History.{empty as empty_base};
-ghost use Rattle.tab_model.specs.State.{new as new_state, IsSound};
+ghost use Rattle.tab_model.specs.State.{new as new_state, level_in, IsSound};
 ghost use Rattle.tab_post.specs.Ends.{as_outbox, mailbox_of, received};
 ghost use Rattle.tab_book.specs.Running.{IsRunning};
 ghost use Rattle.tab_book.specs.Steps.{Joins, Refuses, has_free_seat as has_free_seat_of, with_new_session, KeepsPosts};
@@ -16,6 +16,7 @@ use tab_journal::Journal;
 use tab_model::Limits;
 use tab_post::{Channel, ChannelPost, Host, Inbox, NewMailbox, Opened, Prefix, Register};
 use tab_tables::Catalog;
+use tab_term::Atom;
 
 /// A core whose sessions have mailboxes, and its journal.
 #[derive(Drop)]
@@ -92,6 +93,14 @@ impl<H: Host> Book<H> {
         ensures running { IsRunning self.now }
     {
         &self.journal
+    }
+
+    /// How many sessions watch the table.
+    pub fn watchers(&self, table: &Atom) -> usize
+        ensures { result
+            ≡ count_by (λ s. is_some (level_in s.watching table.now)) self.now.state.sessions }
+    {
+        self.core.watchers(table)
     }
 
     /// True: the entries are run again from the base, which takes as long as the transactions did.

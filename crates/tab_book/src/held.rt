@@ -5,11 +5,10 @@ ghost use Rattle.tab_book.specs.Steps.{is_never_refused};
 
 use crate::book::Book;
 use crate::shared::{Seat, Shared};
-use crate::step::Step;
+use crate::step::{Answered, Step};
 use std::alloc::AllocError;
 use std::sync::MutexGuard;
 use tab_core::Rest;
-use tab_model::SharedReply;
 use tab_post::Host;
 
 /// So many steps are made under one hold.
@@ -40,7 +39,7 @@ impl<'a, H: Host> Held<'a, H> {
     }
 
     /// A step of the session; the book stays held.
-    pub fn step(&mut self, seat: &Seat, step: Step) -> Result<SharedReply, AllocError>
+    pub fn step(&mut self, seat: &Seat, step: Step) -> Result<Answered, AllocError>
         ensures { IsTrue (is_never_refused step) → IsOk result }
     {
         if self.steps >= STEPS {
@@ -55,7 +54,7 @@ impl<'a, H: Host> Held<'a, H> {
         let answered = answered?;
         self.steps = self.steps.saturating_add(1);
         self.releases |= answered.releases;
-        Ok(answered.told)
+        Ok(answered)
     }
 
     /// How the session's rest stands.

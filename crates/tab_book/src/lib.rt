@@ -16,5 +16,5 @@ mod steps;
 pub use book::Book;
 pub use held::Held;
 pub use shared::{Seat, Shared};
-pub use step::{Answered, Drained, JoinFault, Step};
-pub use tab_core::Rest;
+pub use step::{Answered, Drained, JoinFault, Step, TransactionEnd, Transition};
+pub use tab_core::{Rest, SESSIONS};

@@ -9,7 +9,7 @@ ghost use Rattle.tab_book.specs.Steps.{is_never_refused};
 
 use crate::bells::Bells;
 use crate::book::Book;
-use crate::step::{Drained, JoinFault, Step};
+use crate::step::{Answered, Drained, JoinFault, Step, Transition};
 use std::alloc::{AllocError, Global};
 use std::marker::Model;
 use std::sync::atomic::{AtomicBool, Ordering};
@@ -131,7 +131,8 @@ impl<H: Host> Shared<H> {
     pub fn step(&self, host: &H, seat: &Seat, command: Command) -> Result<SharedReply, AllocError>
         ensures { IsTrue (is_abort command) → IsOk result }
     {
-        self.make(host, seat, Step::Do(command))
+        let answered = self.make(host, seat, Step::Do(command))?;
+        Ok(answered.told)
     }
 
     /// Asks for the lock that the session waits for, after each release once more, until it is told otherwise.
@@ -139,8 +140,8 @@ impl<H: Host> Shared<H> {
         ensures { IfOk result (λ r. r ≢ reply.Waiting) }
     {
         for _ in host.forever() {
-            if let Some(told) = self.retry_once(host, seat, SLEEP)? {
-                return Ok(told);
+            if let Some(answered) = self.retry_once(host, seat, SLEEP)? {
+                return Ok(answered.told);
             }
         }
         unreachable!()
@@ -153,8 +154,8 @@ impl<H: Host> Shared<H> {
         host: &H,
         seat: &Seat,
         over: &AtomicBool,
-    ) -> Result<Option<SharedReply>, AllocError>
-        ensures { IfOk result (λ told. IfSome told (λ r. r ≢ reply.Waiting)) }
+    ) -> Result<Option<Answered>, AllocError>
+        ensures { IfOk result (λ answered. IfSome answered (λ a. a.told ≢ reply.Waiting)) }
     {
         let bell = self.bells.of(seat.session);
         for _ in host.forever() {
@@ -162,9 +163,9 @@ impl<H: Host> Shared<H> {
             if over.load(Ordering::SeqCst) {
                 return Ok(None);
             }
-            let told = self.make(host, seat, Step::Retry)?;
-            if !matches!(told.reply(), Reply::Waiting) {
-                return Ok(Some(told));
+            let answered = self.make(host, seat, Step::Retry)?;
+            if !matches!(answered.told.reply(), Reply::Waiting) {
+                return Ok(Some(answered));
             }
             bell.sleep(host, seen, Duration::from_millis(SLEEP));
         }
@@ -183,12 +184,12 @@ impl<H: Host> Shared<H> {
         host: &H,
         seat: &Seat,
         naps: u32,
-    ) -> Result<Option<SharedReply>, AllocError>
-        ensures { IfOk result (λ told. IfSome told (λ r. r ≢ reply.Waiting)) }
+    ) -> Result<Option<Answered>, AllocError>
+        ensures { IfOk result (λ answered. IfSome answered (λ a. a.told ≢ reply.Waiting)) }
     {
         for _ in 0..naps {
-            if let Some(told) = self.retry_once(host, seat, NAP)? {
-                return Ok(Some(told));
+            if let Some(answered) = self.retry_once(host, seat, NAP)? {
+                return Ok(Some(answered));
             }
         }
         Ok(None)
@@ -201,14 +202,14 @@ impl<H: Host> Shared<H> {
         host: &H,
         seat: &Seat,
         at_most: u64,
-    ) -> Result<Option<SharedReply>, AllocError>
-        ensures { IfOk result (λ told. IfSome told (λ r. r ≢ reply.Waiting)) }
+    ) -> Result<Option<Answered>, AllocError>
+        ensures { IfOk result (λ answered. IfSome answered (λ a. a.told ≢ reply.Waiting)) }
     {
         let bell = self.bells.of(seat.session);
         let seen = bell.notifications();
-        let told = self.make(host, seat, Step::Retry)?;
-        if !matches!(told.reply(), Reply::Waiting) {
-            return Ok(Some(told));
+        let answered = self.make(host, seat, Step::Retry)?;
+        if !matches!(answered.told.reply(), Reply::Waiting) {
+            return Ok(Some(answered));
         }
         bell.sleep(host, seen, Duration::from_millis(at_most));
         Ok(None)
@@ -245,9 +246,12 @@ impl<H: Host> Shared<H> {
         self.hold(host).drained(seat.session, inbox)
     }
 
-    /// The session's transaction ends, and its post is dropped.
-    pub fn leave(&self, host: &H, seat: &Seat) {
-        drop(self.make(host, seat, Step::Leave));
+    /// The session's transaction ends, and its post is dropped. Returns what became of the transaction.
+    pub fn leave(&self, host: &H, seat: &Seat) -> Transition {
+        match self.make(host, seat, Step::Leave) {
+            Ok(answered) => answered.transaction,
+            Err(_) => unreachable!(),
+        }
     }
 
     /// Whether the journal replays from its base to the tables. The lock is held while it is run.
@@ -256,12 +260,12 @@ impl<H: Host> Shared<H> {
     }
 
     /// A step, after which those are woken that may go on since.
-    fn make(&self, host: &H, seat: &Seat, step: Step) -> Result<SharedReply, AllocError>
+    fn make(&self, host: &H, seat: &Seat, step: Step) -> Result<Answered, AllocError>
         ensures { IsTrue (is_never_refused step) → IsOk result }
     {
         let mut book = self.hold(host);
         let answered = book.step(seat.session, step)?;
         self.let_go(book, answered.releases);
-        Ok(answered.told)
+        Ok(answered)
     }
 }

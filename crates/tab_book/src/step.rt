@@ -8,12 +8,35 @@ use tab_outbox::SharedItem;
 /// `Take` gives no item, since an inbox takes them; it tells an overflow.
 pub type Step = Ask<Infallible>;
 
-/// What a step was told, and whether it let go of locks or of a queued request while someone waits or rests, so that others
-/// may go on.
+/// How the outermost transaction of a session ended.
+#[derive(Clone, Copy, Debug, PartialEq, Eq)]
+pub enum TransactionEnd {
+    /// It is committed.
+    Commit,
+    /// Nothing of it is kept.
+    Abort,
+    /// Nothing of it is kept, and it begins again with its age.
+    Restart,
+    /// Its session left.
+    Leave,
+}
+
+/// How many levels of its session's transaction were open before a step and after it, up to the greatest 64 bit number, and how
+/// the outermost ended if it did.
+#[derive(Clone, Copy, Debug, PartialEq, Eq)]
+pub struct Transition {
+    pub before: u64,
+    pub after: u64,
+    pub ended: Option<TransactionEnd>,
+}
+
+/// The reply to a step, whether it released locks or a queued request while another session waits or rests, so that others may
+/// go on, and what became of the session's transaction.
 #[derive(Drop)]
 pub struct Answered {
     pub told: SharedReply,
     pub releases: bool,
+    pub transaction: Transition,
 }
 
 /// Why a session can't join: as many are joined as may be, or the numbers are used up; or memory was refused.

@@ -1,6 +1,6 @@
 //! Steps of a book.
 
-ghost use Rattle.std.specs.Prelude.{◌≡◌, ◌≢◌, ◌<◌, ◌&&◌, [], IsTrue, IsFalse, IfOk, IfSome, IsOk, MatchOption, OnOk, OnErr, is_some, length};
+ghost use Rattle.std.specs.Prelude.{◌≡◌, ◌≢◌, ◌<◌, ◌&&◌, [], IsTrue, IsFalse, IfOk, IfSome, IsOk, MatchOption, OnOk, OnErr, is_some, length, nat_lt};
 ghost use Rattle.tab_model.specs.declared.data.Reply.TheVariants.{Restart};
 ghost use Rattle.tab_model.specs.State.{Outbox, is_waiting, transaction_at};
 ghost use Rattle.tab_model.specs.Run.{entries};
@@ -9,16 +9,24 @@ ghost use Rattle.tab_core.specs.Runs.{ask_of as asked_of};
 ghost use Rattle.tab_core.specs.Steps.{takes_no_memory};
 ghost use Rattle.tab_book.specs.Releases.{is_retry, SaysReleases};
 ghost use Rattle.tab_book.specs.Running.{IsRunning};
+ghost use Rattle.tab_book.specs.Transitions.{counted_levels, ended_by, is_leave, is_restart, transition};
 ghost use Rattle.tab_journal.specs.Journals.{is_full};
 ghost use Rattle.tab_book.specs.Steps.{ask_of, leaves as leaves_of, folded, oldest_joined as oldest_joined_of, with_entries, FoldsWhileFull, StepsFrom, StepsTo, MayFold, KeepsPosts};
 
 use crate::book::Book;
-use crate::step::{Answered, Step};
+use crate::step::{Answered, Step, TransactionEnd, Transition};
 use std::alloc::AllocError;
 use tab_core::Stepped;
 use tab_journal::Journal;
 use tab_model::{Command, Entry, Reply, SharedReply};
 use tab_post::Host;
+
+/// How many levels a session has open, and how many transactions were committed.
+#[derive(Clone, Copy)]
+struct Standing {
+    levels: u64,
+    commits: u64,
+}
 
 /// What a session holds others up by: a transaction that is open, and a request that is queued.
 #[derive(Clone, Copy)]
@@ -40,6 +48,9 @@ impl<H: Host> Book<H> {
         ensures posts { KeepsPosts self.old.state self.new.state }
         ensures releases { IfOk result
             (λ r. SaysReleases r.releases self.old.state self.new.state) }
+        ensures transaction { IfOk result
+            (λ r. r.transaction
+            ≡ transition self.old.state self.new.state session (ask_of step) r.told) }
         ensures running { IsRunning self.new }
     {
         let answered = self.answered(session, step);
@@ -57,15 +68,69 @@ impl<H: Host> Book<H> {
         ensures posts { KeepsPosts self.old.state self.new.state }
         ensures releases { IfOk result
             (λ r. SaysReleases r.releases self.old.state self.new.state) }
+        ensures transaction { IfOk result
+            (λ r. r.transaction
+            ≡ transition self.old.state self.new.state session (ask_of step) r.told) }
     {
+        let stood = self.standing(session);
         let before = self.holdup(session);
         let retries = retries(&step);
+        let leaves = ends_session(&step);
         if self.journal.full() && self.may_enter(session, &step) {
             self.make_room()?;
         }
         let told = self.make(session, step)?;
         let releases = self.lets_go(session, before, retries, told.reply());
-        Ok(Answered { told, releases })
+        let transaction = self.transition(session, stood, leaves, told.reply());
+        Ok(Answered {
+            told,
+            releases,
+            transaction,
+        })
+    }
+
+    fn standing(&self, session: u32) -> Standing
+        ensures { result
+            ≡ record {
+              levels = counted_levels self.now.state session;
+              commits = self.now.state.commits;
+            } }
+    {
+        Standing {
+            levels: self.core.levels(session),
+            commits: self.core.commits(),
+        }
+    }
+
+    /// What became of the session's transaction in a step, before which it stood so.
+    fn transition(&self, session: u32, before: Standing, leaves: bool, reply: &Reply) -> Transition
+        ensures { result
+            ≡ record {
+              before = before.levels;
+              after = counted_levels self.now.state session;
+              ended = ended_by before.levels (counted_levels self.now.state session)
+                  (nat_lt before.commits self.now.state.commits) leaves (is_restart reply.now);
+            } }
+    {
+        let after = self.core.levels(session);
+        let ended = if before.levels == 0 {
+            None
+        } else if before.commits < self.core.commits() {
+            Some(TransactionEnd::Commit)
+        } else if leaves {
+            Some(TransactionEnd::Leave)
+        } else if after == 0 {
+            Some(TransactionEnd::Abort)
+        } else if matches!(reply, Reply::Restart) {
+            Some(TransactionEnd::Restart)
+        } else {
+            None
+        };
+        Transition {
+            before: before.levels,
+            after,
+            ended,
+        }
     }
 
     /// The oldest entries are folded into the base, until there is room for one more.
@@ -133,7 +198,7 @@ impl<H: Host> Book<H> {
         let stepped = self.core.step(session, asked(step))?;
         let reply = entered(&mut self.journal, stepped);
         if leaves {
-            self.journal.forget(session as u64);
+            self.journal.forget(session);
         }
         Ok(reply)
     }
@@ -167,7 +232,7 @@ impl<H: Host> Book<H> {
         ensures { result ≡ leaves_of self.now.state session (ask_of step.now) }
     {
         match step {
-            Step::Leave => self.core.joined(session as u64),
+            Step::Leave => self.core.joined(session),
             _ => false,
         }
     }
@@ -179,7 +244,7 @@ impl<H: Host> Book<H> {
         match step {
             Step::Do(Command::Commit) => self.core.levels(session) == 1,
             Step::Do(Command::Schema(_) | Command::Subscribe(..) | Command::Unsubscribe(..)) => {
-                self.core.joined(session as u64)
+                self.core.joined(session)
             }
             _ => false,
         }
@@ -190,6 +255,12 @@ fn retries(step: &Step) -> bool
     ensures { result ≡ is_retry (ask_of step.now) }
 {
     matches!(step, Step::Retry)
+}
+
+fn ends_session(step: &Step) -> bool
+    ensures { result ≡ is_leave (ask_of step.now) }
+{
+    matches!(step, Step::Leave)
 }
 
 /// The step as the core is asked it. No step of a book joins a session.

@@ -9,8 +9,7 @@ pub const LIMITS: Limits = Limits {
     nesting: 4,
     operations: 100,
     tables: 4,
-    ages: 9223372036854775807,
-    journal: 1024,
+    ..Limits::STANDARD
 };
 
 /// The name of the table.

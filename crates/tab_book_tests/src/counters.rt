@@ -113,7 +113,7 @@ fn is_next(raised: Raised) -> bool {
 }
 
 /// Whether it is this transaction of this session, which read in it what the commits before had left.
-fn is_commit(entry: &Entry, session: u64, raised: Raised) -> bool {
+fn is_commit(entry: &Entry, session: u32, raised: Raised) -> bool {
     match entry {
         Entry::Committed {
             number,
@@ -143,7 +143,7 @@ fn is_entered<H: Host>(host: &H, shared: &Shared<H>, seat: &Seat, raised: Raised
     let mut is_found = is_folded && is_next(raised);
     for place in 0..journal.len() {
         if let Some(entry) = journal.entry(place) {
-            is_found |= is_commit(entry, seat.session() as u64, raised);
+            is_found |= is_commit(entry, seat.session(), raised);
         }
     }
     is_found

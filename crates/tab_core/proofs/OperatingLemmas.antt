@@ -21,7 +21,7 @@ use Rattle.tab_model.proofs.StepCases.{within_limit, try_again}
 use Rattle.tab_model.proofs.ReachedWaits.{queued_in-push, request_match, match_of, request_age}
 use Rattle.tab_txstore.specs.Stores.{store_next, no_store, Fits}
 use Rattle.tab_txstore.proofs.FitsLemmas.{fits_new}
-use Rattle.tab_waitdie.specs.declared.ages.Answer as waitdie
+use Rattle.tab_waitdie.specs.declared.ages.LockDecision as waitdie
 use Rattle.tab_waitdie.specs.Decisions as waitdie_of
 use Rattle.tab_subs.specs.declared.transaction.Transaction as kept
 use Rattle.tab_core.specs.declared.queue.Request as request
@@ -43,10 +43,10 @@ queued_push [] q = refl
 queued_push (p ∷ qs) q = ap (λ xs. queued_of p ∷ xs) (queued_push qs q)
 
 -- what the lock table answered, of the lock that the operation needs
-pub decides_as : (g : Ages) (age : ℕ) (l : Rattle.tab_model.specs.Locks.Lock) (o : Operation) (a b : waitdie.Answer) → waitdie_of.answer_of a ≡ decide g (age, l) → a ≡ b → l ≡ needs o → decide g (age, needs o) ≡ waitdie_of.answer_of b
+pub decides_as : (g : Ages) (age : ℕ) (l : Rattle.tab_model.specs.Locks.Lock) (o : Operation) (a b : waitdie.LockDecision) → waitdie_of.answer_of a ≡ decide g (age, l) → a ≡ b → l ≡ needs o → decide g (age, needs o) ≡ waitdie_of.answer_of b
 decides_as g age l o a b h e is = ap (λ x. decide g (age, x)) (sym is) ∙ sym h ∙ ap waitdie_of.answer_of e
 
-pub ages_after : (g g' : Ages) (age : ℕ) (l : Rattle.tab_model.specs.Locks.Lock) (o : Operation) (a b : waitdie.Answer) → g' ≡ waitdie_of.after_answer g (age, l) a → a ≡ b → l ≡ needs o → g' ≡ waitdie_of.after_answer g (age, needs o) b
+pub ages_after : (g g' : Ages) (age : ℕ) (l : Rattle.tab_model.specs.Locks.Lock) (o : Operation) (a b : waitdie.LockDecision) → g' ≡ waitdie_of.after_answer g (age, l) a → a ≡ b → l ≡ needs o → g' ≡ waitdie_of.after_answer g (age, needs o) b
 ages_after g g' age l o a b h e is = h ∙ ap (waitdie_of.after_answer g (age, l)) e ∙ ap (λ x. waitdie_of.after_answer g (age, x) b) is
 
 pub given_back : (g g' : Ages) (age : ℕ) (r : Owned) → without_last age g'.held ≡ g.held → g' ≡ record { held = placed r g.held; queue = g.queue } → (let z : Ages = record { held = without_last age g'.held; queue = g'.queue } in z) ≡ g

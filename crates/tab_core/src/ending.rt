@@ -34,7 +34,7 @@ impl<P: Post + Drop> Machine<P> {
         if self.waits(session) {
             return None;
         }
-        match self.sessions.place(session as u64) {
+        match self.sessions.place(session) {
             Some(place) => self.ending(session, place),
             None => None,
         }
@@ -72,7 +72,7 @@ impl<P: Post + Drop> Machine<P> {
             (state_with self.new) }
         ensures agree { Agree (parts_of self.new) }
     {
-        let Some(place) = self.sessions.place(session as u64) else {
+        let Some(place) = self.sessions.place(session) else {
             unreachable!();
         };
         self.catalog = catalog;

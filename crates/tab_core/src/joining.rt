@@ -37,7 +37,7 @@ impl<P: Post + Drop> Machine<P> {
         requires kept { IsKept (parts_of self.now) }
         ensures { result ≡ min (levels_of (state_with self.now) session) (2 ^ 64 - 1) }
     {
-        match self.sessions.place(session as u64) {
+        match self.sessions.place(session) {
             Some(place) => self.levels_at(session, place),
             None => 0,
         }
@@ -85,7 +85,7 @@ impl<P: Post + Drop> Machine<P> {
             drop(post);
             return Ok(Stepped::without_entry(Reply::SystemLimit(Limit::Sessions)));
         }
-        self.sessions.join(self.alloc, session as u64, post)?;
+        self.sessions.join(self.alloc, session, post)?;
         self.greatest = session;
         Ok(Stepped::without_entry(Reply::Done))
     }
@@ -97,11 +97,11 @@ impl<P: Post + Drop> Machine<P> {
             (state_with self.new) }
         ensures kept { IsKept (parts_of self.new) }
     {
-        let Some(place) = self.sessions.place(session as u64) else {
+        let Some(place) = self.sessions.place(session) else {
             return Stepped::without_entry(Reply::BadSession);
         };
         end_if(true, self.sessions.transaction_mut(place), &mut self.ages);
-        self.sessions.leave(session as u64);
+        self.sessions.leave(session);
         self.queue.retain(|request| request.session != session);
         Stepped::without_entry(Reply::Done)
     }

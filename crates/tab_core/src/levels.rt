@@ -18,7 +18,7 @@ use crate::machine::Machine;
 use crate::operating::end_if;
 use crate::step::Stepped;
 use std::alloc::{AllocError, Global};
-use tab_model::{Entry, Limit, Limits, Numbers, Reply, SharedReply};
+use tab_model::{Entry, Limit, Limits, Reply, Sessions, SharedReply};
 use tab_outbox::Post;
 use tab_subs::Transaction;
 use tab_tables::{Catalog, Lender};
@@ -97,7 +97,7 @@ impl<P: Post + Drop> Machine<P> {
             (state_with self.new ≡ state_with self.old) }
         ensures agree { Agree (parts_of self.new) }
     {
-        let Some(place) = self.sessions.place(session as u64) else {
+        let Some(place) = self.sessions.place(session) else {
             return Ok(Stepped::without_entry(Reply::BadSession));
         };
         if self.waits(session) {
@@ -241,11 +241,11 @@ pub(crate) fn finish(
         reply: SharedReply::new(Reply::Atomic(number)),
         entry: Some(Entry::Committed {
             number,
-            session: session as u64,
+            session,
             age,
             moves,
             told,
-            overflowed: Numbers {
+            overflowed: Sessions {
                 items: Vec::new(alloc),
             },
         }),

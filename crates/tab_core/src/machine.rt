@@ -14,10 +14,10 @@ use crate::queue::{Request, find};
 use crate::step::Stepped;
 use std::alloc::{AllocError, Global};
 use tab_model::{Command, Limits, Reply};
-use tab_operations::Whole;
 use tab_outbox::Post;
 use tab_subs::Subs;
 use tab_tables::{Catalog, table_info};
+use tab_txstore::Whole;
 use tab_waitdie::Ages;
 
 /// How many sessions are joined at most. Their sessions are searched one after another.
@@ -101,7 +101,7 @@ impl<P: Post + Drop> Machine<P> {
         ensures kept { IsKept (parts_of self.new) }
     {
         let asked = Whole { value: command };
-        let Some(place) = self.sessions.place(session as u64) else {
+        let Some(place) = self.sessions.place(session) else {
             return Ok(Stepped::without_entry(Reply::BadSession));
         };
         if find(&self.queue, session).is_some() {

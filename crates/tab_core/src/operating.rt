@@ -20,11 +20,11 @@ use crate::queue::{Request, find};
 use crate::step::Stepped;
 use std::alloc::{AllocError, Global};
 use tab_model::{Limit, Operation, Reply, SharedReply};
-use tab_operations::{Whole, needs, perform};
 use tab_outbox::Post;
 use tab_subs::Transaction;
 use tab_tables::Catalog;
-use tab_waitdie::{Ages, Answer};
+use tab_txstore::{Whole, needs, perform};
+use tab_waitdie::{Ages, LockDecision};
 
 /// What an operation was told, and whether it ended its transaction: by a failure at level 1.
 pub(crate) struct Worked {
@@ -79,13 +79,13 @@ impl<P: Post + Drop> Machine<P> {
         self.queue.reserve(1)?;
         let lock = needs(self.alloc, &asked.value)?;
         match self.ages.request(age, lock)? {
-            Answer::Granted => {
+            LockDecision::Granted => {
                 let slot = self.sessions.transaction_mut(place);
                 let worked = work(self.alloc, &self.catalog, slot, &mut self.ages, asked)?;
                 end_if(worked.over, slot, &mut self.ages);
                 Ok(worked.into_reply())
             }
-            Answer::Wait => {
+            LockDecision::Wait => {
                 self.queue.push_reserved(Request {
                     session,
                     age,
@@ -93,7 +93,7 @@ impl<P: Post + Drop> Machine<P> {
                 });
                 Ok(SharedReply::new(Reply::Waiting))
             }
-            Answer::Die => {
+            LockDecision::Die => {
                 restart(self.sessions.transaction_mut(place), &mut self.ages);
                 Ok(SharedReply::new(Reply::Restart))
             }
@@ -111,7 +111,7 @@ impl<P: Post + Drop> Machine<P> {
             (state_with self.new ≡ state_with self.old) }
         ensures kept { IsKept (parts_of self.new) }
     {
-        let Some(place) = self.sessions.place(session as u64) else {
+        let Some(place) = self.sessions.place(session) else {
             return Ok(Stepped::without_entry(Reply::BadSession));
         };
         Ok(Stepped::told(self.retry_at(session, place)?))

@@ -11,11 +11,11 @@ ghost use Rattle.tab_core.specs.Redefining.{Redefines};
 use crate::machine::Machine;
 use crate::step::Stepped;
 use std::alloc::AllocError;
-use tab_model::{Entry, Limit, Numbers, Reply, Schema, SharedReply};
-use tab_operations::Whole;
+use tab_model::{Entry, Limit, Reply, Schema, Sessions, SharedReply};
 use tab_outbox::Post;
 use tab_tables::{Catalog, Redefined, redefine};
 use tab_term::Atom;
+use tab_txstore::Whole;
 
 impl<P: Post + Drop> Machine<P> {
     /// A command on tables' definitions, of a session that stands in no transaction, refused while anyone holds or awaits a lock in
@@ -56,7 +56,7 @@ impl<P: Post + Drop> Machine<P> {
             reply: SharedReply::new(Reply::AtomicOk),
             entry: Some(Entry::Changed(
                 asked.into_value(),
-                Numbers {
+                Sessions {
                     items: Vec::new(self.alloc),
                 },
             )),

@@ -1,18 +1,19 @@
 //! What a core's sessions are, as its caller sees them.
 
-ghost use Rattle.std.specs.Prelude.{◌≡◌, ◌^◌, ◌-◌, ◌&&◌, [], None, MatchOption, IsFalse, length, min, nat_lt, option_map};
+ghost use Rattle.std.specs.Prelude.{◌≡◌, ◌^◌, ◌-◌, ◌&&◌, [], None, MatchOption, IsFalse, count_by, is_some, length, min, nat_lt, option_map};
 ghost use Rattle.tab_model.specs.Standing.{is_joined, levels_of};
-ghost use Rattle.tab_model.specs.State.{is_waiting, session_at};
+ghost use Rattle.tab_model.specs.State.{is_waiting, level_in, session_at};
 ghost use Rattle.tab_outbox.specs.Mailboxes.{Meets};
 
 use crate::machine::SESSIONS;
 use crate::{Core, Rest};
 use arrayvec::ArrayVec;
 use tab_outbox::{Mailbox, Met, Post};
+use tab_term::Atom;
 
 impl<P: Post + Drop> Core<P> {
     /// Whether a session of this number is joined.
-    pub fn joined(&self, session: u64) -> bool
+    pub fn joined(&self, session: u32) -> bool
         ensures { result ≡ is_joined self.now session }
     {
         self.machine.sessions.place(session).is_some()
@@ -28,7 +29,7 @@ impl<P: Post + Drop> Core<P> {
     /// How the session's rest stands: whether it was restarted for a lock that is not free yet.
     pub fn rest(&self, session: u32) -> Rest {
         let sessions = &self.machine.sessions;
-        let Some(place) = sessions.place(session as u64) else {
+        let Some(place) = sessions.place(session) else {
             return Rest::Over;
         };
         match sessions.transaction(place) {
@@ -44,10 +45,8 @@ impl<P: Post + Drop> Core<P> {
         for place in 0..sessions.len() {
             if let Some(transaction) = sessions.transaction(place) {
                 if self.machine.ages.is_ready(transaction.age) {
-                    // There is a place for each session, and each number is of 32 bits.
-                    if let Ok(number) = u32::try_from(sessions.number(place)) {
-                        let _full = ready.try_push(number);
-                    }
+                    // There is a place for each session.
+                    let _full = ready.try_push(sessions.number(place));
                 }
             }
         }
@@ -70,11 +69,26 @@ impl<P: Post + Drop> Core<P> {
         self.machine.admits(session)
     }
 
+    /// How many sessions watch the table.
+    pub fn watchers(&self, table: &Atom) -> usize
+        ensures { result
+            ≡ count_by (λ s. is_some (level_in s.watching table.now)) self.now.sessions }
+    {
+        self.machine.sessions.watchers(table)
+    }
+
     /// The greatest number that has joined.
     pub fn greatest(&self) -> u32
         ensures { result ≡ self.now.greatest }
     {
         self.machine.greatest
+    }
+
+    /// How many outermost transactions were committed.
+    pub fn commits(&self) -> u64
+        ensures { result ≡ self.now.commits }
+    {
+        self.machine.commits
     }
 
     /// How many levels the session has open, up to the greatest 64 bit number.
@@ -89,7 +103,7 @@ impl<P: Post + Drop> Core<P> {
         ensures { option_map (λ p. P.outbox p.now) result
             ≡ option_map (λ s. s.outbox) (session_at self.now.sessions session) }
     {
-        self.machine.sessions.post(session as u64)
+        self.machine.sessions.post(session)
     }
 
     /// The number of the session's overflow, where it was not told yet. None of one that isn't joined.
@@ -97,7 +111,7 @@ impl<P: Post + Drop> Core<P> {
         ensures { MatchOption (session_at self.now.sessions session) (result ≡ None)
             (λ s. result ≡ s.overflow) }
     {
-        self.machine.sessions.overflow(session as u64)
+        self.machine.sessions.overflow(session)
     }
 }
 
@@ -110,6 +124,6 @@ impl<P: Mailbox + Drop> Core<P> {
         ensures met { Meets (option_map (λ s. s.outbox) (session_at self.old.sessions session))
             (P.mailbox end.old) (P.taken end.old) result (P.taken end.new) }
     {
-        self.machine.sessions.meet(session as u64, end)
+        self.machine.sessions.meet(session, end)
     }
 }

@@ -48,7 +48,7 @@ impl<P: Post + Drop> Core<P> {
         ensures sound { IsSound self.new }
         ensures rising { IsRising self.new }
     {
-        let taken = self.machine.sessions.take(session as u64);
+        let taken = self.machine.sessions.take(session);
         taken_reply(taken)
     }
 }

@@ -3,7 +3,7 @@
 ghost use Rattle.std.specs.Prelude.{◌≡◌, None, option_map};
 ghost use Rattle.tab_core.specs.Owing.{with_overflowed as with_overflowed_of};
 
-use tab_model::{Entry, Numbers, Reply, SharedReply};
+use tab_model::{Entry, Reply, Sessions, SharedReply};
 
 /// What a step answers, and what it adds to the log.
 #[derive(Drop)]
@@ -38,7 +38,7 @@ impl Stepped {
 }
 
 /// The step with those whose posts refused its items.
-pub(crate) fn with_overflowed(stepped: Stepped, over: Numbers) -> Stepped
+pub(crate) fn with_overflowed(stepped: Stepped, over: Sessions) -> Stepped
     ensures { result
         ≡ record {
           reply = stepped.reply;
@@ -55,7 +55,7 @@ pub(crate) fn with_overflowed(stepped: Stepped, over: Numbers) -> Stepped
     }
 }
 
-fn overflowed_in(entry: Entry, over: Numbers) -> Entry
+fn overflowed_in(entry: Entry, over: Sessions) -> Entry
     ensures { result ≡ with_overflowed_of over entry }
 {
     match entry {

@@ -46,11 +46,11 @@ impl<P: Post + Drop> Core<P> {
         let marked = self
             .machine
             .sessions
-            .subscribe(self.machine.alloc, session as u64, named, level, records)?;
+            .subscribe(self.machine.alloc, session, named, level, records)?;
         Ok(marked_reply(
             marked,
             Entry::Subscribed {
-                session: session as u64,
+                session,
                 table,
                 level,
                 dump,
@@ -71,13 +71,13 @@ impl<P: Post + Drop> Core<P> {
         if let Some(refusal) = self.session_refusal(session) {
             return Ok(Some(refusal));
         }
-        if self.machine.sessions.overflow(session as u64).is_some() {
+        if self.machine.sessions.overflow(session).is_some() {
             return Ok(Some(Reply::OverflowUntold));
         }
         if self.machine.catalog.table(table).is_none() {
             return Ok(Some(Reply::UnknownTable(table.try_clone(self.machine.alloc)?)));
         }
-        if self.machine.sessions.level(session as u64, table).is_some() {
+        if self.machine.sessions.level(session, table).is_some() {
             return Ok(Some(Reply::AlreadySubscribed(table.try_clone(self.machine.alloc)?)));
         }
         Ok(None)
@@ -88,7 +88,7 @@ impl<P: Post + Drop> Core<P> {
         ensures { result
             ≡ refused_by self.now session (λ s. None) (session_at self.now.sessions session) }
     {
-        if self.machine.sessions.place(session as u64).is_none() {
+        if self.machine.sessions.place(session).is_none() {
             return Some(Reply::BadSession);
         }
         if self.machine.waits(session) {
@@ -118,8 +118,8 @@ impl<P: Post + Drop> Core<P> {
         let marked = self
             .machine
             .sessions
-            .unsubscribe(self.machine.alloc, session as u64, &table)?;
-        Ok(marked_reply(marked, Entry::Unsubscribed(session as u64, table)))
+            .unsubscribe(self.machine.alloc, session, &table)?;
+        Ok(marked_reply(marked, Entry::Unsubscribed(session, table)))
     }
 
     /// What refuses the end of a subscription but its post.
@@ -140,7 +140,7 @@ impl<P: Post + Drop> Core<P> {
         if let Some(refusal) = self.session_refusal(session) {
             return Ok(Some(refusal));
         }
-        if is_at(self.machine.sessions.level(session as u64, table), level) {
+        if is_at(self.machine.sessions.level(session, table), level) {
             return Ok(None);
         }
         Ok(Some(Reply::NotSubscribed(table.try_clone(self.machine.alloc)?)))

@@ -3,8 +3,8 @@ use std::alloc::{AllocError, Global};
 use tab_journal::Journal;
 use tab_lists::SharedTerms;
 use tab_model::{
-    Entry, Kind, Level, LoggedOperation, LoggedReply, Move, Moves, Numbers, Operation, Replies,
-    Reply, Schema, SharedReply,
+    Entry, Kind, Level, LoggedOperation, LoggedReply, Move, Moves, Operation, Replies, Reply,
+    Schema, Sessions, SharedReply,
 };
 use tab_records::Iter;
 use tab_term::{Term, Terms};
@@ -126,8 +126,8 @@ fn told_of(alloc: Global, made: &Made) -> Result<Option<LoggedReply>, AllocError
     })
 }
 
-fn none(alloc: Global) -> Numbers {
-    Numbers {
+fn none(alloc: Global) -> Sessions {
+    Sessions {
         items: Vec::new(alloc),
     }
 }

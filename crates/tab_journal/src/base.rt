@@ -121,7 +121,7 @@ impl Base {
     }
 
     /// Drops the subscriptions of a session that has left. Takes no memory.
-    pub(crate) fn forget(&mut self, session: u64)
+    pub(crate) fn forget(&mut self, session: u32)
         ensures { self.new ≡ without_subscriber self.old session }
     {
         forget(&mut self.subscriptions, session);

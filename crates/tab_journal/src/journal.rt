@@ -142,7 +142,7 @@ impl Journal {
     }
 
     /// Drops the subscriptions of a session that has left from the base. Takes no memory.
-    pub fn forget(&mut self, session: u64)
+    pub fn forget(&mut self, session: u32)
         ensures { self.new ≡ forget_in self.old session }
     {
         self.base.forget(session);

@@ -14,9 +14,8 @@ use std::collections::VecDeque;
 use std::marker::Model;
 use std::slice;
 use tab_model::{LoggedOperation, LoggedReply, Move};
-use tab_operations::{Whole, perform};
 use tab_tables::{Catalog, Lender};
-use tab_txstore::{TxStore, update_of};
+use tab_txstore::{TxStore, Whole, perform, update_of};
 
 /// A transaction in its midst, on whole versions of the tables, which share what does not change.
 struct Midst {

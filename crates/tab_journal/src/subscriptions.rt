@@ -15,7 +15,7 @@ use tab_term::Atom;
 /// A session's subscription to a table.
 #[derive(Drop)]
 pub struct Subscription {
-    pub session: u64,
+    pub session: u32,
     pub table: Atom,
     pub level: Level,
 }
@@ -28,13 +28,13 @@ impl Model for Subscription {
     ghost view = { λ a. record { session = a.session; table = a.table; level = a.level } };
 }
 
-fn is_of(subscription: &Subscription, session: u64, table: &Atom) -> bool
+fn is_of(subscription: &Subscription, session: u32, table: &Atom) -> bool
     ensures { result ≡ is_subscription_of session table.now subscription.now }
 {
     subscription.session == session && subscription.table == *table
 }
 
-fn has_session(sessions: &[u64], session: u64) -> bool
+fn has_session(sessions: &[u32], session: u32) -> bool
     ensures { result ≡ is_among sessions.now session }
 {
     for one in sessions {
@@ -66,14 +66,14 @@ fn is_gone(table: &Atom, gone: Option<&Atom>) -> bool
     }
 }
 
-fn outlasts(subscription: &Subscription, overflowed: &[u64], gone: Option<&Atom>) -> bool
+fn outlasts(subscription: &Subscription, overflowed: &[u32], gone: Option<&Atom>) -> bool
     ensures { result ≡ outlasts_entry overflowed.now (option_copied gone.entry) subscription.now }
 {
     !(is_gone(&subscription.table, gone) || has_session(overflowed, subscription.session))
 }
 
 /// Keeps the subscriptions that outlast an entry in which these sessions overflowed and this table was deleted.
-pub fn keep(subscriptions: &mut Vec<Subscription>, overflowed: &[u64], gone: Option<&Atom>)
+pub fn keep(subscriptions: &mut Vec<Subscription>, overflowed: &[u32], gone: Option<&Atom>)
     ensures { subscriptions.new.items
         ≡ filter (outlasts_entry overflowed.now (option_copied gone.entry))
         subscriptions.old.items }
@@ -82,7 +82,7 @@ pub fn keep(subscriptions: &mut Vec<Subscription>, overflowed: &[u64], gone: Opt
 }
 
 /// Takes a session's subscription to a table out.
-pub fn unsubscribe(subscriptions: &mut Vec<Subscription>, session: u64, table: &Atom)
+pub fn unsubscribe(subscriptions: &mut Vec<Subscription>, session: u32, table: &Atom)
     ensures { subscriptions.new.items
         ≡ filter (λ x. not (is_subscription_of session table.now x)) subscriptions.old.items }
 {
@@ -93,7 +93,7 @@ pub fn unsubscribe(subscriptions: &mut Vec<Subscription>, session: u64, table: &
 pub fn subscribe(
     subscriptions: &mut Vec<Subscription>,
     alloc: Global,
-    session: u64,
+    session: u32,
     table: &Atom,
     level: Level,
 ) -> Result<(), AllocError>
@@ -115,7 +115,7 @@ pub fn subscribe(
 }
 
 /// Drops the subscriptions of a session.
-pub fn forget(subscriptions: &mut Vec<Subscription>, session: u64)
+pub fn forget(subscriptions: &mut Vec<Subscription>, session: u32)
     ensures { subscriptions.new.items
         ≡ filter (λ (x : SubscriptionOf). not (x.session == session)) subscriptions.old.items }
 {

@@ -4,10 +4,8 @@ use arrayvec::ArrayVec;
 use std::sync::atomic::{AtomicU64, Ordering};
 use std::sync::{Mutex, Wait};
 use std::time::{Clock, Instant};
+use tab_book::SESSIONS;
 use tab_server::{Count, Note};
-
-/// So many sessions are there at once at most.
-const SESSIONS: usize = 64;
 
 /// A session's open transaction.
 #[derive(Clone, Copy, Default)]

@@ -14,19 +14,38 @@ use tab_tables::Catalog;
 #[derive(Drop)]
 pub struct Holdings {
     tables: Catalog,
+    /// How many sessions watch each of them.
+    watchers: Vec<u64>,
     /// Entries of the journal.
     entries: u64,
 }
 
 impl Holdings {
-    /// Of a book, which is held only while its tables are shared: the time for that is constant.
-    pub fn of<H: Host>(host: &H, shared: &Shared<H>) -> Result<Holdings, AllocError> {
-        let book = shared.hold(host);
+    /// Of a book, which is held only while its tables are shared, which takes constant time, and then once for each table while
+    /// its watchers are counted.
+    pub fn of<H: Host>(
+        host: &H,
+        alloc: Global,
+        shared: &Shared<H>,
+    ) -> Result<Holdings, AllocError> {
+        let (tables, entries) = shared_tables(host, shared)?;
+        let mut watchers = Vec::new(alloc);
+        for entry in tables.tables() {
+            let count = shared.hold(host).watchers(entry.pair().0);
+            watchers.push(count as u64)?;
+        }
         Ok(Holdings {
-            tables: book.tables().share()?,
-            entries: book.journal().len() as u64,
+            tables,
+            watchers,
+            entries,
         })
     }
+}
+
+/// The tables, and how many entries the journal has.
+fn shared_tables<H: Host>(host: &H, shared: &Shared<H>) -> Result<(Catalog, u64), AllocError> {
+    let book = shared.hold(host);
+    Ok((book.tables().share()?, book.journal().len() as u64))
 }
 
 /// What has a page of its meters, and a clock.
@@ -102,6 +121,7 @@ pub fn page_of<R: Wait + Clock>(
     page.counters(meters)?;
     page.transactions(meters.open(rt), meters.oldest(rt))?;
     page.tables(&holdings.tables)?;
+    page.watchers(holdings)?;
     page.gauge(
         "journal_entries",
         "Entries of the journal.",
@@ -176,6 +196,15 @@ impl Page {
         }
         self.gauge("tables", "Tables.", count)?;
         self.gauge("records", "Records of all tables.", records)
+    }
+
+    /// How many sessions watch each table.
+    fn watchers(&mut self, holdings: &Holdings) -> Result<(), AllocError> {
+        self.head("table_watchers", "gauge", "Sessions that watch each table.")?;
+        for (entry, count) in holdings.tables.tables().zip(&holdings.watchers) {
+            self.labeled("table_watchers", "table", entry.pair().0.as_str(), *count)?;
+        }
+        Ok(())
     }
 
     fn counter(&mut self, name: &str, help: &str, value: u64) -> Result<(), AllocError> {

@@ -77,8 +77,14 @@ fn answer<H: Host, P: Paged>(
         return Ok(());
     };
     let text = match request {
-        Request::Page => page(host, alloc, shared, paged, true)?,
-        Request::Head => page(host, alloc, shared, paged, false)?,
+        Request::Page => {
+            let page = page(host, alloc, shared, paged)?;
+            found(alloc, page.len(), &page)?
+        }
+        Request::Head => {
+            let page = page(host, alloc, shared, paged)?;
+            found(alloc, page.len(), "")?
+        }
         Request::Elsewhere => other(alloc, "404 Not Found")?,
         Request::Otherwise => other(alloc, "405 Method Not Allowed\r\nAllow: GET, HEAD")?,
         Request::Wrong => other(alloc, "400 Bad Request")?,
@@ -88,19 +94,19 @@ fn answer<H: Host, P: Paged>(
     stream.end()
 }
 
-/// The page's head, and the page if it is asked for.
 fn page<H: Host, P: Paged>(
     host: &H,
     alloc: Global,
     shared: &Shared<H>,
     paged: &P,
-    whole: bool,
 ) -> Result<String, AllocError> {
-    let page = paged.page(&Holdings::of(host, shared)?)?;
-    let body = if whole { page.as_str() } else { "" };
+    paged.page(&Holdings::of(host, alloc, shared)?)
+}
+
+/// The answer to a request for a page of this length, with this much of it.
+fn found(alloc: Global, len: usize, body: &str) -> Result<String, AllocError> {
     format!(in alloc;
-        "HTTP/1.1 200 OK\r\nContent-Type: text/plain; version=0.0.4\r\nContent-Length: {}\r\nConnection: close\r\n\r\n{body}",
-        page.len()
+        "HTTP/1.1 200 OK\r\nContent-Type: text/plain; version=0.0.4\r\nContent-Length: {len}\r\nConnection: close\r\n\r\n{body}"
     )
 }
 

@@ -5,7 +5,7 @@ ghost use Rattle.tab_model.specs.Events.{is_failure as is_failure_of};
 ghost use Rattle.tab_model.specs.LoggedOperations.{operation_in};
 ghost use Rattle.tab_model.specs.Shared.{is_found};
 
-use crate::lists::{Atoms, Moves, Numbers, Parts, Replies};
+use crate::lists::{Atoms, Moves, Numbers, Parts, Replies, Sessions};
 use crate::logged_operation::{LoggedOperation, OperationForm, form_of_write};
 use crate::shared_item::SharedItem;
 use std::alloc::{AllocError, Global};
@@ -161,6 +161,18 @@ pub struct Limits {
     pub journal: u64,
 }
 
+impl Limits {
+    /// The limits of a server. The number of ages is the greatest that an external term of 64 bits holds.
+    pub const STANDARD: Limits = Limits {
+        sessions: 64,
+        nesting: 16,
+        operations: 1000,
+        tables: 256,
+        ages: 9_223_372_036_854_775_807,
+        journal: 1024,
+    };
+}
+
 /// What `table_info` answers: a type, the names of attributes, the positions of indexes, how many records.
 #[derive(Drop)]
 pub enum TableInfo {
@@ -269,22 +281,22 @@ pub enum Entry {
     /// A commit: its moves, what they were told, and the sessions that overflowed in it.
     Committed {
         number: u64,
-        session: u64,
+        session: u32,
         age: u64,
         moves: Moves,
         told: Replies,
-        overflowed: Numbers,
+        overflowed: Sessions,
     },
     /// A schema command that is done, and the sessions that overflowed in it.
-    Changed(Schema, Numbers),
+    Changed(Schema, Sessions),
     Subscribed {
-        session: u64,
+        session: u32,
         table: Atom,
         level: Level,
         dump: bool,
     },
     /// The session and the table.
-    Unsubscribed(u64, Atom),
+    Unsubscribed(u32, Atom),
 }
 
 // A derived drop would be taken apart, variant by variant, at each exit of each function that holds one of these.

@@ -29,7 +29,7 @@ pub use laws::{
     these_steps_may_enter, waits_have_no_cycle, what_a_change_leaves,
     what_was_not_done_is_not_observed, who_leaves_has_taken_a_beginning, who_left_is_forgotten,
 };
-pub use lists::{Atoms, Moves, Numbers, Parts, Replies};
+pub use lists::{Atoms, Moves, Numbers, Parts, Replies, Sessions};
 pub use logged_operation::{LoggedOperation, OperationForm};
 pub use logged_reply::{Kept, LoggedReply};
 pub use only_record::{OnlyRecord, copy_of_key};

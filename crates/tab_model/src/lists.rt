@@ -22,13 +22,27 @@ impl Model for Atoms {
     ghost view = { λ a. a.items.items };
 }
 
-/// Numbers: positions of attributes, or sessions.
+/// Positions of attributes.
 #[derive(Drop)]
 pub struct Numbers {
     pub items: Vec<u64>,
 }
 
 impl Model for Numbers {
+    ghost use Rattle.std.specs.Prelude.{List, ℕ};
+
+    ghost Value = { List ℕ };
+
+    ghost view = { λ a. a.items.items };
+}
+
+/// The numbers of sessions.
+#[derive(Drop)]
+pub struct Sessions {
+    pub items: Vec<u32>,
+}
+
+impl Model for Sessions {
     ghost use Rattle.std.specs.Prelude.{List, ℕ};
 
     ghost Value = { List ℕ };

@@ -2,13 +2,13 @@
 use Rattle.std.specs.Prelude.{◌≡◌, List, [], ◌∷◌, Option, Some, None}
 use Rattle.tab_term.specs.Data.{PlainTerms}
 use Rattle.tab_model.specs.declared.data.Reply.{Reply}
-use Rattle.tab_oneshot.specs.declared.answer.Answer.{Answer}
+use Rattle.tab_oneshot.specs.declared.answer.OneShotAnswer.{OneShotAnswer}
 use Rattle.tab_oneshot.specs.declared.turn.Turn as code
 use Rattle.tab_oneshot.specs.declared.turn.Turn.TheVariants as turn
 use Rattle.tab_oneshot.specs.Attempts.{Turn, GoesOn, IsOver, Restarts}
 
 -- the reply of a wait, if the surroundings could wait
-abbrev pub awaited : Option Answer → Option Reply
+abbrev pub awaited : Option OneShotAnswer → Option Reply
 awaited None = None
 awaited (Some x) = Some x.reply
 

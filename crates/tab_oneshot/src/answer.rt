@@ -28,24 +28,24 @@ pub enum Sort {
 }
 
 /// An answer of the seat.
-pub struct Answer {
+pub struct OneShotAnswer {
     pub reply: SharedReply,
 }
 
 // A derived Drop would be taken apart, variant by variant, at each exit of each caller.
-impl Drop for Answer {
+impl Drop for OneShotAnswer {
     fn drop(self) {
-        let Answer { reply } = self;
+        let OneShotAnswer { reply } = self;
         drop(reply);
     }
 }
 
-impl Answer {
+impl OneShotAnswer {
     /// Memory was refused.
-    pub fn no_memory() -> Answer
+    pub fn no_memory() -> OneShotAnswer
         ensures { result.reply ≡ reply.NoMemory }
     {
-        Answer {
+        OneShotAnswer {
             reply: SharedReply::new(Reply::NoMemory),
         }
     }
@@ -54,7 +54,7 @@ impl Answer {
     pub fn into_reply(self) -> SharedReply
         ensures { result ≡ self.reply }
     {
-        let Answer { reply } = self;
+        let OneShotAnswer { reply } = self;
         reply
     }
 

@@ -6,35 +6,35 @@ ghost use Rattle.tab_oneshot.specs.Calls.{Call, Asked, Waited};
 ghost use Rattle.tab_oneshot.specs.Attempts.{Ends, Stops};
 ghost use Rattle.tab_oneshot.specs.Parts.{awaited, turn_of};
 
-use crate::answer::{Answer, Sort};
+use crate::answer::{OneShotAnswer, Sort};
 use crate::steps::Steps;
 use crate::turn::Turn;
 use tab_model::{Command, SharedReply};
 use tab_term::Term;
 
 /// Hands a command in.
-pub fn ask<S: Steps>(steps: &mut S, command: Command) -> Answer
+pub fn ask<S: Steps>(steps: &mut S, command: Command) -> OneShotAnswer
     ensures { S.shows steps.old (Asked command result.reply ∷ []) steps.new }
 {
     match steps.step(command) {
-        Ok(reply) => Answer { reply },
-        Err(_) => Answer::no_memory(),
+        Ok(reply) => OneShotAnswer { reply },
+        Err(_) => OneShotAnswer::no_memory(),
     }
 }
 
 /// The answer of what waits; None where no one can wait.
-pub fn wait<S: Steps>(steps: &mut S) -> Option<Answer>
+pub fn wait<S: Steps>(steps: &mut S) -> Option<OneShotAnswer>
     ensures { S.shows steps.old (Waited (awaited result) ∷ []) steps.new }
 {
     match steps.wait() {
-        Some(Ok(reply)) => Some(Answer { reply }),
-        Some(Err(_)) => Some(Answer::no_memory()),
+        Some(Ok(reply)) => Some(OneShotAnswer { reply }),
+        Some(Err(_)) => Some(OneShotAnswer::no_memory()),
         None => None,
     }
 }
 
 /// Ends so many levels and the one inside them; the last answer, or that to an abort which ended no level.
-pub fn end<S: Steps>(steps: &mut S, around: usize, last: Answer) -> SharedReply
+pub fn end<S: Steps>(steps: &mut S, around: usize, last: OneShotAnswer) -> SharedReply
     ensures { (more : List Call) × S.shows steps.old more steps.new
         × Ends (suc around) last.reply more result }
 {
@@ -52,7 +52,7 @@ pub fn end<S: Steps>(steps: &mut S, around: usize, last: Answer) -> SharedReply
 }
 
 /// All open levels are ended: so many, and the one inside them.
-pub fn stop<S: Steps>(steps: &mut S, around: usize, last: Answer) -> Turn
+pub fn stop<S: Steps>(steps: &mut S, around: usize, last: OneShotAnswer) -> Turn
     ensures { (more : List Call) × S.shows steps.old more steps.new
         × ((levels after : List PlainTerms) → length levels ≡ suc around
         → Stops last.reply levels more (turn_of result after)) }

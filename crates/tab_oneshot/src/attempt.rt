@@ -6,7 +6,7 @@ ghost use Rattle.tab_oneshot.specs.Attempts.{Commits, IsAttempt, passed as passe
 
 use crate::answer::Sort;
 use crate::asking::{ask, end};
-use crate::levels::Levels;
+use crate::levels::DriverLevels;
 use crate::parts::serve;
 use crate::steps::Steps;
 use crate::turn::Turn;
@@ -27,7 +27,7 @@ fn passed(part: &Part, skipped: usize) -> usize
 }
 
 /// The commit of level 1.
-fn commit<S: Steps>(steps: &mut S, alloc: Global, levels: &mut Levels) -> SharedReply
+fn commit<S: Steps>(steps: &mut S, alloc: Global, levels: &mut DriverLevels) -> SharedReply
     ensures { (more : List Call) × S.shows steps.old more steps.new
         × Commits levels.old more result }
 {
@@ -44,7 +44,7 @@ pub fn attempt<S: Steps>(
     steps: &mut S,
     alloc: Global,
     parts: &[Part],
-    levels: &mut Levels,
+    levels: &mut DriverLevels,
 ) -> Option<SharedReply>
     ensures { (more : List Call) × S.shows steps.old more steps.new
         × IsAttempt parts.now 0 levels.old more result }

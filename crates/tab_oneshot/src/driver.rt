@@ -5,10 +5,10 @@ ghost use Rattle.tab_term.specs.Data.{none};
 ghost use Rattle.tab_oneshot.specs.Calls.{Call, Again};
 ghost use Rattle.tab_oneshot.specs.OneShots.{is_one_shot, IsOneShot, IsRun, Runs};
 
-use crate::answer::{Answer, Sort};
+use crate::answer::{OneShotAnswer, Sort};
 use crate::asking::{ask, end};
 use crate::attempt::attempt;
-use crate::levels::Levels;
+use crate::levels::DriverLevels;
 use crate::steps::Steps;
 use std::alloc::Global;
 use tab_model::{Command, Part, Parts, Reply, SharedReply};
@@ -43,7 +43,7 @@ fn run<S: Steps>(steps: &mut S, alloc: Global, parts: &Parts, retries: u64) -> S
 }
 
 /// Level 1 stays open.
-fn begin_anew<S: Steps>(steps: &mut S, levels: &mut Levels)
+fn begin_anew<S: Steps>(steps: &mut S, levels: &mut DriverLevels)
     ensures again { S.shows steps.old (Again ∷ []) steps.new }
     ensures levels { levels.new ≡ none ∷ [] }
 {
@@ -56,7 +56,7 @@ fn attempts<S: Steps>(steps: &mut S, alloc: Global, parts: &[Part], retries: u64
     ensures { (more : List Call) × S.shows steps.old more steps.new
         × Runs parts.now retries more result }
 {
-    let mut levels = Levels::new(alloc);
+    let mut levels = DriverLevels::new(alloc);
     for _restart in 0..retries {
         if let Some(reply) = attempt(steps, alloc, parts, &mut levels) {
             return reply;
@@ -68,7 +68,7 @@ fn attempts<S: Steps>(steps: &mut S, alloc: Global, parts: &[Part], retries: u64
         None => end(
             steps,
             0,
-            Answer {
+            OneShotAnswer {
                 reply: SharedReply::new(Reply::NoMore),
             },
         ),

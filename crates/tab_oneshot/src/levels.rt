@@ -12,12 +12,12 @@ use std::mem;
 use tab_lists::{Answer, Answers};
 
 /// The answers in the open levels: one level is always open. Contracts see them innermost first.
-pub struct Levels {
+pub struct DriverLevels {
     inner: Answers,
     outer: Vec<Answers>,
 }
 
-impl Model for Levels {
+impl Model for DriverLevels {
     ghost use Rattle.std.specs.Prelude.{List, ◌∷◌, reverse};
     ghost use Rattle.std.specs.Coded.{codes};
     ghost use Rattle.tab_term.specs.Code.{terms_code};
@@ -30,20 +30,20 @@ impl Model for Levels {
     ghost view = { λ a. a.inner ∷ reverse a.outer.items };
 }
 
-impl Drop for Levels {
+impl Drop for DriverLevels {
     fn drop(self) {
-        let Levels { inner, outer } = self;
+        let DriverLevels { inner, outer } = self;
         drop(inner);
         drop(outer);
     }
 }
 
-impl Levels {
+impl DriverLevels {
     /// Level 1 alone, with no answers.
-    pub fn new(alloc: Global) -> Levels
+    pub fn new(alloc: Global) -> DriverLevels
         ensures { result ≡ none ∷ [] }
     {
-        Levels {
+        DriverLevels {
             inner: Answers::new(alloc),
             outer: Vec::new(alloc),
         }

@@ -10,9 +10,9 @@ ghost use Rattle.tab_oneshot.specs.Calls.{Call};
 ghost use Rattle.tab_oneshot.specs.Attempts.{sort_of, told, Puts, LevelEnds, AfterOperation, AfterWait, Joins, Serves};
 ghost use Rattle.tab_oneshot.specs.Parts.{awaited, turn_of};
 
-use crate::answer::{Answer, Sort};
+use crate::answer::{OneShotAnswer, Sort};
 use crate::asking::{ask, stop, wait};
-use crate::levels::Levels;
+use crate::levels::DriverLevels;
 use crate::steps::Steps;
 use crate::turn::Turn;
 use std::alloc::{AllocError, Global};
@@ -21,21 +21,30 @@ use tab_model::{Command, Operation, Part, Reply, SharedReply};
 use tab_proto::answer_of;
 use tab_term::Term;
 
-fn put_answer(alloc: Global, answer: Answer, levels: &mut Levels) -> Result<(), AllocError>
+fn put_answer(
+    alloc: Global,
+    answer: OneShotAnswer,
+    levels: &mut DriverLevels,
+) -> Result<(), AllocError>
     requires { IsTrue (is_told answer.reply) }
     ensures { OnOk result (levels.new ≡ told (reply_term answer.reply) levels.old) }
 {
     levels.put(answer_of(alloc, answer.into_reply())?)
 }
 
-fn put_inner(inner: Answers, levels: &mut Levels) -> Result<(), AllocError>
+fn put_inner(inner: Answers, levels: &mut DriverLevels) -> Result<(), AllocError>
     ensures { OnOk result (levels.new ≡ told (reply_term (reply.AtomicTerms inner)) levels.old) }
 {
     levels.put(tab_lists::Answer::Atomic(inner))
 }
 
 /// An operation's answer stands in its level.
-fn tell<S: Steps>(steps: &mut S, alloc: Global, answer: Answer, levels: &mut Levels) -> Turn
+fn tell<S: Steps>(
+    steps: &mut S,
+    alloc: Global,
+    answer: OneShotAnswer,
+    levels: &mut DriverLevels,
+) -> Turn
     requires { IsTrue (is_told answer.reply) }
     ensures { (more : List Call) × S.shows steps.old more steps.new
         × Puts 0 answer.reply levels.old more (turn_of result levels.new) }
@@ -43,12 +52,17 @@ fn tell<S: Steps>(steps: &mut S, alloc: Global, answer: Answer, levels: &mut Lev
     let around = levels.around();
     match put_answer(alloc, answer, levels) {
         Ok(()) => Turn::GoOn,
-        Err(_) => stop(steps, around, Answer::no_memory()),
+        Err(_) => stop(steps, around, OneShotAnswer::no_memory()),
     }
 }
 
 /// The answer ended the innermost level.
-fn end_level<S: Steps>(steps: &mut S, alloc: Global, answer: Answer, levels: &mut Levels) -> Turn
+fn end_level<S: Steps>(
+    steps: &mut S,
+    alloc: Global,
+    answer: OneShotAnswer,
+    levels: &mut DriverLevels,
+) -> Turn
     requires { IsTrue (is_told answer.reply) }
     ensures { (more : List Call) × S.shows steps.old more steps.new
         × LevelEnds answer.reply levels.old more (turn_of result levels.new) }
@@ -63,7 +77,12 @@ fn end_level<S: Steps>(steps: &mut S, alloc: Global, answer: Answer, levels: &mu
 }
 
 /// The answer of an ended level stands in the one around it.
-fn tell_behind<S: Steps>(steps: &mut S, alloc: Global, answer: Answer, levels: &mut Levels) -> Turn
+fn tell_behind<S: Steps>(
+    steps: &mut S,
+    alloc: Global,
+    answer: OneShotAnswer,
+    levels: &mut DriverLevels,
+) -> Turn
     requires { IsTrue (is_told answer.reply) }
     ensures { (more : List Call) × S.shows steps.old more steps.new
         × Puts 1 answer.reply levels.old more (turn_of result levels.new) }
@@ -71,15 +90,15 @@ fn tell_behind<S: Steps>(steps: &mut S, alloc: Global, answer: Answer, levels: &
     let around = levels.around();
     match put_answer(alloc, answer, levels) {
         Ok(()) => Turn::Skip,
-        Err(_) => stop(steps, around, Answer::no_memory()),
+        Err(_) => stop(steps, around, OneShotAnswer::no_memory()),
     }
 }
 
 fn after_operation<S: Steps>(
     steps: &mut S,
     alloc: Global,
-    answer: Answer,
-    levels: &mut Levels,
+    answer: OneShotAnswer,
+    levels: &mut DriverLevels,
 ) -> Turn
     ensures { (more : List Call) × S.shows steps.old more steps.new
         × AfterOperation (sort_of answer.reply) answer.reply levels.old more
@@ -97,8 +116,8 @@ fn after_operation<S: Steps>(
 fn after_wait<S: Steps>(
     steps: &mut S,
     alloc: Global,
-    levels: &mut Levels,
-    waited: Option<Answer>,
+    levels: &mut DriverLevels,
+    waited: Option<OneShotAnswer>,
 ) -> Turn
     ensures { (more : List Call) × S.shows steps.old more steps.new
         × AfterWait (awaited waited) levels.old more (turn_of result levels.new) }
@@ -106,7 +125,7 @@ fn after_wait<S: Steps>(
     match waited {
         Some(answer) => after_operation(steps, alloc, answer, levels),
         None => {
-            let answer = Answer {
+            let answer = OneShotAnswer {
                 reply: SharedReply::new(Reply::NoWait),
             };
             stop(steps, levels.around(), answer)
@@ -118,7 +137,7 @@ fn after_wait<S: Steps>(
 fn operation(
     alloc: Global,
     operation: &Operation,
-    levels: &mut Levels,
+    levels: &mut DriverLevels,
 ) -> Result<Command, AllocError>
     ensures ok { IfOk result (λ c. c ≡ command.Do operation.now) }
     ensures same { levels.new ≡ levels.old }
@@ -127,12 +146,17 @@ fn operation(
     Ok(Command::Do(operation.try_clone(alloc)?))
 }
 
-fn operate<S: Steps>(steps: &mut S, alloc: Global, asked: &Operation, levels: &mut Levels) -> Turn
+fn operate<S: Steps>(
+    steps: &mut S,
+    alloc: Global,
+    asked: &Operation,
+    levels: &mut DriverLevels,
+) -> Turn
     ensures { (more : List Call) × S.shows steps.old more steps.new
         × Serves (part.Do asked.now) levels.old more (turn_of result levels.new) }
 {
     let Ok(command) = operation(alloc, asked, levels) else {
-        return stop(steps, levels.around(), Answer::no_memory());
+        return stop(steps, levels.around(), OneShotAnswer::no_memory());
     };
     let answer = ask(steps, command);
     match answer.sort() {
@@ -145,7 +169,7 @@ fn operate<S: Steps>(steps: &mut S, alloc: Global, asked: &Operation, levels: &m
 }
 
 /// The command of an abort, and the place of its answer.
-fn abort_of(alloc: Global, reason: &Term, levels: &mut Levels) -> Result<Command, AllocError>
+fn abort_of(alloc: Global, reason: &Term, levels: &mut DriverLevels) -> Result<Command, AllocError>
     ensures ok { IfOk result (λ c. c ≡ command.Abort reason.now) }
     ensures same { levels.new ≡ levels.old }
 {
@@ -153,12 +177,12 @@ fn abort_of(alloc: Global, reason: &Term, levels: &mut Levels) -> Result<Command
     Ok(Command::Abort(reason.try_clone(alloc)?))
 }
 
-fn abort<S: Steps>(steps: &mut S, alloc: Global, reason: &Term, levels: &mut Levels) -> Turn
+fn abort<S: Steps>(steps: &mut S, alloc: Global, reason: &Term, levels: &mut DriverLevels) -> Turn
     ensures { (more : List Call) × S.shows steps.old more steps.new
         × Serves (part.Abort reason.now) levels.old more (turn_of result levels.new) }
 {
     let Ok(command) = abort_of(alloc, reason, levels) else {
-        return stop(steps, levels.around(), Answer::no_memory());
+        return stop(steps, levels.around(), OneShotAnswer::no_memory());
     };
     let answer = ask(steps, command);
     match answer.sort() {
@@ -168,14 +192,14 @@ fn abort<S: Steps>(steps: &mut S, alloc: Global, reason: &Term, levels: &mut Lev
     }
 }
 
-fn begin<S: Steps>(steps: &mut S, alloc: Global, levels: &mut Levels) -> Turn
+fn begin<S: Steps>(steps: &mut S, alloc: Global, levels: &mut DriverLevels) -> Turn
     ensures { (more : List Call) × S.shows steps.old more steps.new
         × Serves part.Open levels.old more (turn_of result levels.new) }
 {
     let around = levels.around();
     // Its place stands before it is begun: after that nothing of this is refused.
     if levels.begin(alloc).is_err() {
-        return stop(steps, around, Answer::no_memory());
+        return stop(steps, around, OneShotAnswer::no_memory());
     }
     let answer = ask(steps, Command::Begin);
     match answer.sort() {
@@ -186,7 +210,7 @@ fn begin<S: Steps>(steps: &mut S, alloc: Global, levels: &mut Levels) -> Turn
 }
 
 /// The answers of a committed child stand in the level around it.
-fn join<S: Steps>(steps: &mut S, answer: Answer, levels: &mut Levels) -> Turn
+fn join<S: Steps>(steps: &mut S, answer: OneShotAnswer, levels: &mut DriverLevels) -> Turn
     ensures { (more : List Call) × S.shows steps.old more steps.new
         × Joins answer.reply levels.old more (turn_of result levels.new) }
 {
@@ -196,13 +220,13 @@ fn join<S: Steps>(steps: &mut S, answer: Answer, levels: &mut Levels) -> Turn
             let around = levels.around();
             match put_inner(inner, levels) {
                 Ok(()) => Turn::GoOn,
-                Err(_) => stop(steps, around, Answer::no_memory()),
+                Err(_) => stop(steps, around, OneShotAnswer::no_memory()),
             }
         }
     }
 }
 
-fn commit<S: Steps>(steps: &mut S, levels: &mut Levels) -> Turn
+fn commit<S: Steps>(steps: &mut S, levels: &mut DriverLevels) -> Turn
     ensures { (more : List Call) × S.shows steps.old more steps.new
         × Serves part.Close levels.old more (turn_of result levels.new) }
 {
@@ -215,7 +239,7 @@ fn commit<S: Steps>(steps: &mut S, levels: &mut Levels) -> Turn
 }
 
 /// Hands a part in.
-pub fn serve<S: Steps>(steps: &mut S, alloc: Global, part: &Part, levels: &mut Levels) -> Turn
+pub fn serve<S: Steps>(steps: &mut S, alloc: Global, part: &Part, levels: &mut DriverLevels) -> Turn
     ensures { (more : List Call) × S.shows steps.old more steps.new
         × Serves part.now levels.old more (turn_of result levels.new) }
 {

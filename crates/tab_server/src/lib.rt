@@ -10,13 +10,13 @@ mod answers;
 mod connection;
 mod events;
 mod gate;
-mod levels;
 mod listener;
 mod next;
 mod place;
 mod requests;
 mod settings;
 mod steps;
+mod transactions;
 mod troubles;
 mod watch;
 

@@ -4,9 +4,9 @@ ghost use Rattle.std.specs.Prelude.{◌≤◌, length};
 
 use crate::answers::{Answers, Unwritten};
 use crate::gate::{Count, Gate};
-use crate::levels::Levels;
 use crate::place::Place;
 use crate::steps::Behind;
+use crate::transactions::Transactions;
 use crate::watch::Watch;
 use std::alloc::Global;
 use std::io::{ErrorKind, Read, Write};
@@ -33,7 +33,7 @@ pub struct Requests<'a, H: Host, W: Write, G: Gate> {
     pub watch: &'a Watch,
     pub answers: Answers<'a, W, G>,
     pub held: Held<'a, H>,
-    pub levels: Levels,
+    pub transactions: Transactions,
     /// Where the stream stands, and whether the frame there is read over.
     pub place: Place,
     pub skips: bool,
@@ -74,7 +74,7 @@ pub fn serve_session<H: Host, R: Read, W: Write, G: Gate>(
         watch,
         answers: Answers::new(alloc, sink, gate, seat.session()),
         held: Held::new(host, shared),
-        levels: Levels::new(seat.session()),
+        transactions: Transactions::new(seat.session()),
         place: Place::new(),
         skips: false,
         aborts,
@@ -82,7 +82,7 @@ pub fn serve_session<H: Host, R: Read, W: Write, G: Gate>(
         aborted: false,
     };
     let ending = requests.all(reader);
-    shared.leave(host, seat);
+    requests.leave();
     watch.stop(host);
     ending
 }
@@ -90,12 +90,18 @@ pub fn serve_session<H: Host, R: Read, W: Write, G: Gate>(
 impl<'a, H: Host, W: Write, G: Gate> Requests<'a, H, W, G> {
     /// All requests, behind which no transaction is open.
     fn all<R: Read>(&mut self, reader: &mut R) -> Ending {
-        let ending = match self.stream(reader) {
+        match self.stream(reader) {
             Ok(ending) => ending,
             Err(_) => Ending::Over,
-        };
-        self.levels.leave(self.answers.counts());
-        ending
+        }
+    }
+
+    /// The session leaves, and its transaction ends.
+    fn leave(&mut self) {
+        self.held.give_back();
+        let left = self.shared.leave(self.host, &self.seat);
+        self.transactions.step(left);
+        self.transactions.count(self.answers.counts());
     }
 
     fn stream<R: Read>(&mut self, reader: &mut R) -> Result<Ending, Unwritten> {
@@ -126,8 +132,9 @@ impl<'a, H: Host, W: Write, G: Gate> Requests<'a, H, W, G> {
     /// Whether a transaction was open. An abort tells, which changes nothing where none is.
     fn ends_transaction(&mut self) -> bool {
         let reason = Term::List(Terms::from_vec(Vec::new(self.alloc)));
-        let abort = Command::Abort(reason);
-        match self.shared.step(self.host, &self.seat, abort) {
+        let told = self.make(Command::Abort(reason));
+        self.give_back();
+        match told {
             Ok(told) => !matches!(told.reply(), Reply::NoTransaction),
             Err(_) => true,
         }

@@ -4,13 +4,12 @@ ghost use Rattle.std.specs.Prelude.{◌≢◌, IfSome};
 ghost use Rattle.tab_model.specs.declared.data.Reply.TheVariants as reply;
 
 use crate::gate::{Count, Gate};
-use crate::levels::Kind;
 use crate::next::is_abort_in;
 use crate::requests::Requests;
 use crate::troubles::pause;
 use std::alloc::{AllocError, Global};
 use std::io::Write;
-use tab_book::{Rest, Step};
+use tab_book::{Answered, Rest, Step};
 use tab_etf::Frame;
 use tab_model::{Command, Reply, SharedReply};
 use tab_oneshot::{Steps, one_shot};
@@ -19,6 +18,10 @@ use tab_post::Host;
 /// So many naps of 20 milliseconds a restarted transaction rests at most. A client that drives two connections from one thread
 /// has to be told `restart` while the other's transaction is open.
 const NAPS: u32 = 5;
+
+/// So many a one-shot rests before its next attempt. Its client is not told of a restart, so it need not ask again soon: it is
+/// woken when its lock is free. Each attempt ends in time, since their number may be limited.
+const ONE_SHOT_NAPS: u32 = 50;
 
 /// What ends a request's wait besides its lock.
 #[derive(Clone, Copy, Debug, PartialEq, Eq)]
@@ -35,11 +38,8 @@ impl<'a, H: Host, W: Write, G: Gate> Requests<'a, H, W, G> {
     pub fn command(&mut self, command: Command, next: Option<&Frame>) -> Option<SharedReply> {
         self.behind = self.end_of_wait(next);
         self.aborted = false;
-        let kind = Kind::of(&command);
-        self.levels.ask(kind, self.answers.counts());
         let told = self.answer(command);
-        self.held.give_back();
-        self.levels.tell(kind, told.reply(), self.answers.counts());
+        self.give_back();
         if self.aborted && matches!(told.reply(), Reply::Waiting) {
             return None;
         }
@@ -50,10 +50,9 @@ impl<'a, H: Host, W: Write, G: Gate> Requests<'a, H, W, G> {
     /// rests first.
     fn answer(&mut self, command: Command) -> SharedReply {
         if matches!(command, Command::OneShot(..)) {
-            let alloc = self.alloc;
-            return one_shot(self, alloc, command);
+            return self.one_shot(command);
         }
-        let Ok(told) = self.held.step(&self.seat, Step::Do(command)) else {
+        let Ok(told) = self.make(command) else {
             return SharedReply::new(Reply::NoMemory);
         };
         let told = match told.reply() {
@@ -64,8 +63,49 @@ impl<'a, H: Host, W: Write, G: Gate> Requests<'a, H, W, G> {
             return SharedReply::new(Reply::NoMemory);
         };
         if matches!(told.reply(), Reply::Restart) {
-            self.again();
+            self.restarted(NAPS);
         }
+        told
+    }
+
+    /// A restart is counted, and the transaction rests for so many naps at most.
+    fn restarted(&mut self, naps: u32) {
+        self.answers.counts().count(Count::Restarts, 1);
+        self.rest(naps);
+    }
+
+    fn one_shot(&mut self, command: Command) -> SharedReply {
+        let alloc = self.alloc;
+        let told = one_shot(self, alloc, command);
+        if matches!(told.reply(), Reply::NoMore) {
+            self.answers.counts().count(Count::Restarts, 1);
+            self.answers.counts().count(Count::GivenUp, 1);
+        }
+        told
+    }
+
+    /// The book is given back, and what the steps under its hold did is counted.
+    pub fn give_back(&mut self) {
+        self.held.give_back();
+        self.transactions.count(self.answers.counts());
+    }
+
+    /// One step of the session; the book stays held.
+    pub fn make(&mut self, command: Command) -> Result<SharedReply, AllocError> {
+        let answered = self.held.step(&self.seat, Step::Do(command))?;
+        Ok(self.reply_to(answered))
+    }
+
+    /// The reply to a step, whose transaction is to be counted.
+    fn reply_to(&mut self, answered: Answered) -> SharedReply
+        ensures { result ≡ answered.told }
+    {
+        let Answered {
+            told,
+            releases: _,
+            transaction,
+        } = answered;
+        self.transactions.step(transaction);
         told
     }
 
@@ -79,28 +119,28 @@ impl<'a, H: Host, W: Write, G: Gate> Requests<'a, H, W, G> {
     }
 
     /// Who was restarted rests until its lock is free. The stream is watched after the first nap.
-    fn rest(&mut self) {
+    fn rest(&mut self, naps: u32) {
         if matches!(self.held.rest(&self.seat), Rest::Over | Rest::Free) {
             return;
         }
-        self.held.give_back();
+        self.give_back();
         if self.answers.write(self.host).is_err() || self.shared.rest(self.host, &self.seat, 1) {
             return;
         }
         self.watch.begin(self.host, false);
-        let _over = self.shared.rest(self.host, &self.seat, NAPS - 1);
+        let _over = self.shared.rest(self.host, &self.seat, naps.saturating_sub(1));
         self.watch.end(self.host);
     }
 
     /// The answer of the request that waits; None where an abort ends its wait. Where memory is refused while it asks again the
     /// request is in the queue still, and a connection has no word for it: so it waits on, and asks again after a pause.
-    fn granted(&self) -> Option<SharedReply>
-        ensures { IfSome result (λ told. told ≢ reply.Waiting) }
+    fn granted(&self) -> Option<Answered>
+        ensures { IfSome result (λ a. a.told ≢ reply.Waiting) }
     {
         let aborted = self.watch.aborted();
         for _ in self.host.forever() {
-            if let Ok(told) = self.shared.retry_until(self.host, &self.seat, aborted) {
-                return told;
+            if let Ok(answered) = self.shared.retry_until(self.host, &self.seat, aborted) {
+                return answered;
             }
             pause(self.host);
         }
@@ -116,12 +156,12 @@ impl<'a, H: Host, W: Write, G: Gate> Steps for Requests<'a, H, W, G> {
     ghost shows_on = { λ x y z first more a b. tt };
 
     fn step(&mut self, command: Command) -> Result<SharedReply, AllocError> {
-        self.held.step(&self.seat, Step::Do(command))
+        self.make(command)
     }
 
     /// None where an abort has ended the wait, or no one is left to be answered.
     fn wait(&mut self) -> Option<Result<SharedReply, AllocError>> {
-        self.held.give_back();
+        self.give_back();
         self.answers.counts().count(Count::Waits, 1);
         if self.answers.write(self.host).is_err() {
             return None;
@@ -130,18 +170,18 @@ impl<'a, H: Host, W: Write, G: Gate> Steps for Requests<'a, H, W, G> {
             self.aborted = true;
             return None;
         }
-        if let Ok(Some(told)) = self.shared.retry_for(self.host, &self.seat, 1) {
-            return Some(Ok(told));
+        if let Ok(Some(answered)) = self.shared.retry_for(self.host, &self.seat, 1) {
+            return Some(Ok(self.reply_to(answered)));
         }
         self.watch.begin(self.host, self.behind == Behind::Stream);
-        let told = self.granted();
+        let granted = self.granted();
         self.watch.end(self.host);
-        self.aborted = told.is_none();
-        told.map(Ok)
+        self.aborted = granted.is_none();
+        let answered = granted?;
+        Some(Ok(self.reply_to(answered)))
     }
 
     fn again(&mut self) {
-        self.answers.counts().count(Count::Restarts, 1);
-        self.rest();
+        self.restarted(ONE_SHOT_NAPS);
     }
 }

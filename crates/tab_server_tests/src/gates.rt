@@ -18,14 +18,7 @@ use tab_model::Limits;
 use tab_post::{Channel, Host, Naming, Opened};
 use tab_server::{Count, Counts, Gate, Listener, Note, Notes, Settings, serve};
 
-pub const LIMITS: Limits = Limits {
-    sessions: 64,
-    nesting: 16,
-    operations: 1000,
-    tables: 256,
-    ages: 9_223_372_036_854_775_807,
-    journal: 1024,
-};
+pub const LIMITS: Limits = Limits::STANDARD;
 
 const TURNS: u32 = 10_000;
 

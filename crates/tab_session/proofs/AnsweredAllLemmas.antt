@@ -3,7 +3,7 @@ use Rattle.std.proofs.Common.{◌≡◌, ℕ, zero, suc, ◌+◌, List, [], ◌�
 use Rattle.std.proofs.lemmas.List.{append-nil}
 use Rattle.std.proofs.lemmas.List.Concat.{flat_map-append}
 use Rattle.std.proofs.Math.Seq.{take-append-add}
-use Rattle.tab_session.specs.declared.answered.Answer.{Answer}
+use Rattle.tab_session.specs.declared.answered.PayloadReply.{PayloadReply}
 use Rattle.tab_model.specs.State.{State}
 use Rattle.tab_session.specs.AnsweredPayloads.{Answered, IsUnderRead, AnsweredAll, answer_frame}
 use Rattle.std.proofs.Common.{Result, Ok, Err}
@@ -13,13 +13,13 @@ use Rattle.tab_etf.specs.declared.fault.Stop.{Stop}
 use Rattle.tab_model.specs.declared.data.Reply.TheVariants.{NoMemory}
 use Rattle.tab_session.specs.Replays.{frames_of, IsRun}
 
-abbrev unasked : Answer
+abbrev unasked : PayloadReply
 unasked = record { session = 0; reply = NoMemory }
 
-pub frames_join : (rs ss : List Answer) → frames_of (rs ++ ss) ≡ frames_of rs ++ frames_of ss
+pub frames_join : (rs ss : List PayloadReply) → frames_of (rs ++ ss) ≡ frames_of rs ++ frames_of ss
 frames_join rs ss = flat_map-append answer_frame rs ss
 
-pub frames_one : (rs : List Answer) (r : Answer) → frames_of (rs ++ r ∷ []) ≡ frames_of rs ++ answer_frame r
+pub frames_one : (rs : List PayloadReply) (r : PayloadReply) → frames_of (rs ++ r ∷ []) ≡ frames_of rs ++ answer_frame r
 frames_one rs r = frames_join rs (r ∷ []) ∙ ap (λ (x : List ℕ). frames_of rs ++ x) (append-nil (answer_frame r))
 
 -- a beginning of the first part is one of the whole
@@ -40,13 +40,13 @@ module _ (capacity : ℕ) where
   refused σ p = inr (record { reply = refl; same = refl; under = under σ (whole p) })
 
   -- any payloads can be answered
-  pub total : (σ : State) (ps : List (List ℕ)) → (rs : List Answer) × IsRun capacity σ ps rs
+  pub total : (σ : State) (ps : List (List ℕ)) → (rs : List PayloadReply) × IsRun capacity σ ps rs
   total σ [] = ([], record { last = σ; ran = refl })
   total σ (p ∷ ps) =
       let t = total σ ps in
       (unasked ∷ t.0, record { last = t.1.last; ran = (σ, refused σ p, t.1.ran) })
 
-  pub ran_join : (σ μ τ : State) (ps qs : List (List ℕ)) (rs ss : List Answer) → AnsweredAll capacity σ ps rs μ → AnsweredAll capacity μ qs ss τ → AnsweredAll capacity σ (ps ++ qs) (rs ++ ss) τ
+  pub ran_join : (σ μ τ : State) (ps qs : List (List ℕ)) (rs ss : List PayloadReply) → AnsweredAll capacity σ ps rs μ → AnsweredAll capacity μ qs ss τ → AnsweredAll capacity σ (ps ++ qs) (rs ++ ss) τ
   ran_join σ μ τ [] qs [] ss p q = subst (λ (s : State). AnsweredAll capacity s qs ss τ) p q
   ran_join σ μ τ [] qs (r ∷ rs) ss p q = absurd p
   ran_join σ μ τ (x ∷ ps) qs [] ss p q = absurd p

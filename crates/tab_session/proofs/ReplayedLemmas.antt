@@ -8,7 +8,7 @@ use Rattle.tab_etf.specs.Feeding.{IsStopped}
 use Rattle.tab_etf.specs.declared.framing.FrameFault.{FrameFault}
 use Rattle.tab_etf.specs.declared.framing.FrameFault.TheVariants as faults
 use Rattle.tab_etf.specs.Streams.{payloads, rest_of, GoesOn, Stops}
-use Rattle.tab_session.specs.declared.answered.Answer.{Answer}
+use Rattle.tab_session.specs.declared.answered.PayloadReply.{PayloadReply}
 use Rattle.tab_model.specs.State.{State}
 use Rattle.tab_session.specs.AnsweredPayloads.{AnsweredAll}
 use Rattle.tab_session.specs.declared.ended.Ended.{Ended}
@@ -60,10 +60,10 @@ pub record Next (stream : List ℕ) (done given : List (List ℕ)) : Type 0 wher
   pub others : List (List ℕ)
   pub found : payloads stream ≡ done ++ (given ++ others)
 
-regroup : (a b c d : List Answer) → a ++ ((b ++ c) ++ d) ≡ (a ++ b) ++ (c ++ d)
-regroup a b c d = ap (λ (x : List Answer). a ++ x) (append_assoc b c d) ∙ sym (append_assoc a b (c ++ d))
+regroup : (a b c d : List PayloadReply) → a ++ ((b ++ c) ++ d) ≡ (a ++ b) ++ (c ++ d)
+regroup a b c d = ap (λ (x : List PayloadReply). a ++ x) (append_assoc b c d) ∙ sym (append_assoc a b (c ++ d))
 
-too_long_on : (rs us : List Answer) → BeginsTooLong rs → BeginsTooLong (rs ++ us)
+too_long_on : (rs us : List PayloadReply) → BeginsTooLong rs → BeginsTooLong (rs ++ us)
 too_long_on [] us h = absurd h
 too_long_on (r ∷ rs) us h = h
 
@@ -138,7 +138,7 @@ module _ (capacity : ℕ) where
           said = record {
             last = now;
             ran = subst (λ (ps : List (List ℕ)). AnsweredAll capacity fresh ps s.said now) (ap (λ (x : List (List ℕ)). s.done ++ x) (sym e) ∙ ap (λ (x : List ℕ). s.done ++ payloads x) (sym whole) ∙ sym (payloads_so_far stream left held i now old new s))
-                (subst (λ (rs : List Answer). AnsweredAll capacity fresh (s.done ++ []) rs now) (append-nil s.said) (s.goes [] [] now refl));
+                (subst (λ (rs : List PayloadReply). AnsweredAll capacity fresh (s.done ++ []) rs now) (append-nil s.said) (s.goes [] [] now refl));
           };
           text = s.text;
         };
@@ -176,8 +176,8 @@ module _ (capacity : ℕ) where
       record { others = []; found = payloads_so_far stream left held i now old new s ∙ ap (λ (x : List ℕ). s.done ++ payloads x) (again held piece k.next s.more k.parts) ∙ ap (λ (x : List (List ℕ)). s.done ++ x) (g.found k.next ∙ sym (append-nil given)) }
 
   -- the run of what was served, after what was done and before all the rest
-  said_on : (stream : List ℕ) (left : Option (List ℕ)) (held : List ℕ) (i : ℕ) (now : State) (old mid : Option (List ℕ)) (given : List (List ℕ)) (rs : List Answer)
-      → (s : IsReplaying capacity stream left held i now old mid) → Next stream s.done given → IsRun capacity now given rs → (us : List Answer) × IsRun capacity fresh (payloads stream) (s.said ++ (rs ++ us))
+  said_on : (stream : List ℕ) (left : Option (List ℕ)) (held : List ℕ) (i : ℕ) (now : State) (old mid : Option (List ℕ)) (given : List (List ℕ)) (rs : List PayloadReply)
+      → (s : IsReplaying capacity stream left held i now old mid) → Next stream s.done given → IsRun capacity now given rs → (us : List PayloadReply) × IsRun capacity fresh (payloads stream) (s.said ++ (rs ++ us))
   said_on stream left held i now old mid given rs s n q =
       let t = total capacity q.last n.others in
       (t.0, record { last = t.1.last; ran = subst (λ (ps : List (List ℕ)). AnsweredAll capacity fresh ps (s.said ++ (rs ++ t.0)) t.1.last) (sym n.found) (s.goes (given ++ n.others) (rs ++ t.0) t.1.last (ran_join capacity now q.last t.1.last given n.others rs t.0 q.ran t.1.ran)) })
@@ -201,7 +201,7 @@ module _ (capacity : ℕ) where
       record {
         first = s.said ++ h.first;
         others = h.others ++ u.0;
-        said = subst (λ (rs : List Answer). IsRun capacity fresh (payloads stream) rs) (regroup s.said h.first h.others u.0) u.1;
+        said = subst (λ (rs : List PayloadReply). IsRun capacity fresh (payloads stream) rs) (regroup s.said h.first h.others u.0) u.1;
         text = Appends-then old mid new _ _ _ s.text h.text (sym (frames_join s.said h.first));
         next = too_long_on h.others u.0 h.next;
       }
@@ -209,7 +209,7 @@ module _ (capacity : ℕ) where
 
   -- a run over the whole stream from what was done
   said_all : (stream : List ℕ) (left : Option (List ℕ)) (held : List ℕ) (i : ℕ) (now : State) (old new : Option (List ℕ))
-      → (s : IsReplaying capacity stream left held i now old new) → (us : List Answer) × IsRun capacity fresh (payloads stream) (s.said ++ us)
+      → (s : IsReplaying capacity stream left held i now old new) → (us : List PayloadReply) × IsRun capacity fresh (payloads stream) (s.said ++ us)
   said_all stream left held i now old new s =
       let t = total capacity now (payloads (held ++ s.more)) in
       (t.0, record { last = t.1.last; ran = subst (λ (ps : List (List ℕ)). AnsweredAll capacity fresh ps (s.said ++ t.0) t.1.last) (sym (payloads_so_far stream left held i now old new s)) (s.goes (payloads (held ++ s.more)) t.0 t.1.last t.1.ran) })
@@ -243,7 +243,7 @@ module _ (capacity : ℕ) where
           said = record {
             last = now;
             ran = subst (λ (ps : List (List ℕ)). AnsweredAll capacity fresh ps s.said now) (sym all)
-                (subst (λ (rs : List Answer). AnsweredAll capacity fresh (s.done ++ []) rs now) (append-nil s.said) (s.goes [] [] now refl));
+                (subst (λ (rs : List PayloadReply). AnsweredAll capacity fresh (s.done ++ []) rs now) (append-nil s.said) (s.goes [] [] now refl));
           };
           text = s.text;
         };

@@ -17,7 +17,7 @@ use Rattle.tab_model.specs.Run.{item_of, delivered_by, JoinsEmpty}
 use Rattle.tab_model.proofs.SessionAlone.{stays_sole, no_wait, no_restart}
 use Rattle.tab_proto.specs.Requests.{Request, number_in, IsNumbered}
 use Rattle.tab_proto.proofs.RequestsApart.{requests_apart}
-use Rattle.tab_session.specs.declared.answered.Answer.{Answer}
+use Rattle.tab_session.specs.declared.answered.PayloadReply.{PayloadReply}
 use Rattle.tab_session.specs.StepsMade.{IsStepMade, StepMadeOrRefused}
 use Rattle.tab_session.specs.OneSessions.{Ran, IsDriven}
 use Rattle.tab_session.specs.Bounded.{IsBounded}
@@ -75,7 +75,7 @@ driven_leads σ μ n c r d = leads_as σ μ _ (λ m. []) (λ m. delivered_by m n
     none = last_reply GivesNone (record { no_memory = refl; no_wait = refl; no_more = refl; terms = λ ts. refl }) c d.calls r d.one_shot (calls_give_none n σ μ d.calls handed d.ran)
 
 -- an answer that changes nothing
-quiet_leads : (σ μ : State) (x : Answer) → μ ≡ σ → GivesNone x.reply → Leads σ μ nothing_done (λ m. delivered_by m x.session x.reply)
+quiet_leads : (σ μ : State) (x : PayloadReply) → μ ≡ σ → GivesNone x.reply → Leads σ μ nothing_done (λ m. delivered_by m x.session x.reply)
 quiet_leads σ μ x same e = leads_as σ μ nothing_done (λ m. []) (λ m. delivered_by m x.session x.reply) (λ m. sym (none_taken m x.session x.reply e)) (stays σ μ same)
 
 -- ---- an answer follows from its payload and the state
@@ -90,7 +90,7 @@ number_once t m n (inl h) (inr k) = absurd (h.1 n k.0 k.1)
 number_once t m n (inr h) (inl k) = absurd (k.1 m h.0 h.1)
 number_once t m n (inr h) (inr k) = ap value_of (sym h.1 ∙ k.1)
 
-answer_of : (x y : Answer) → x.session ≡ y.session → x.reply ≡ y.reply → x ≡ y
+answer_of : (x y : PayloadReply) → x.session ≡ y.session → x.reply ≡ y.reply → x ≡ y
 answer_of x y e f = λ i. record { session = e i; reply = f i }
 
 made_bounded : (σ μ : State) (n : ℕ) (a : Ask) (r : Reply) → JoinsBounded a → IsBounded σ → IsStepMade σ n a r μ → IsBounded μ
@@ -115,17 +115,17 @@ driven_alone σ μ n (DoCommand (command.OneShot parts retries)) r d = refl
 driven_alone σ μ n (DoCommand c) r d = absurd d.one_shot
 driven_alone σ μ n a r d = absurd d
 
-abbrev Unrefused : Answer → Type 0
+abbrev Unrefused : PayloadReply → Type 0
 Unrefused x = x.reply ≢ reply.NoMemory
 
 -- ---- a session that is alone
 
-record Alone (n : ℕ) (μ : State) (x : Answer) : Type 0 where
+record Alone (n : ℕ) (μ : State) (x : PayloadReply) : Type 0 where
   pub sole : IsSole n μ
   pub wait : x.reply ≢ reply.Waiting
   pub restart : x.reply ≢ reply.Restart
 
-stays_alone : (n : ℕ) (σ μ : State) (x : Answer) → μ ≡ σ → x.reply ≢ reply.Waiting → x.reply ≢ reply.Restart → IsSole n σ → Alone n μ x
+stays_alone : (n : ℕ) (σ μ : State) (x : PayloadReply) → μ ≡ σ → x.reply ≢ reply.Waiting → x.reply ≢ reply.Restart → IsSole n σ → Alone n μ x
 stays_alone n σ μ x same w r sole = record { sole = subst (IsSole n) (sym same) sole; wait = w; restart = r }
 
 -- a reply that is no wait and no restart
@@ -154,7 +154,7 @@ calls_calm n σ μ (Asked c r ∷ calls) (ρ, one, ran) sole =
 calls_calm n σ μ (Waited w ∷ calls) (e, ran) sole = let all = calls_calm n σ μ calls ran sole in (all.0, (subst (λ (x : Option Reply). Awaited Calm x) (sym e) tt, all.1))
 calls_calm n σ μ (Again ∷ calls) ran sole = calls_calm n σ μ calls ran sole
 
-abbrev GoesOn : Answer → Type 0
+abbrev GoesOn : PayloadReply → Type 0
 GoesOn x = (x.reply ≢ reply.Waiting) × (x.reply ≢ reply.Restart)
 
 module _ (capacity : ℕ) where
@@ -170,32 +170,32 @@ module _ (capacity : ℕ) where
   request_leads σ μ n (DoCommand c) r (inr driven) = driven_leads σ μ n c r driven
   request_leads σ μ n a r (inr driven) = absurd driven
 
-  read_leads : (σ μ : State) (read : Result PlainTerm Stop) (x : Answer) (h : AnsweredRead capacity σ read x μ) → Leads σ μ (of_read capacity σ read x μ h) (λ m. delivered_by m x.session x.reply)
-  read_leads σ μ (Err f) x h = quiet_leads σ μ x h.1 (ap (λ y. item_of (Answer.reply y)) h.0)
+  read_leads : (σ μ : State) (read : Result PlainTerm Stop) (x : PayloadReply) (h : AnsweredRead capacity σ read x μ) → Leads σ μ (of_read capacity σ read x μ h) (λ m. delivered_by m x.session x.reply)
+  read_leads σ μ (Err f) x h = quiet_leads σ μ x h.1 (ap (λ y. item_of (PayloadReply.reply y)) h.0)
   read_leads σ μ (Ok t) x (inl h) = quiet_leads σ μ x h.same (ap item_of h.reply)
   read_leads σ μ (Ok t) x (inr h) = request_leads σ μ x.session h.asked x.reply h.made
 
-  answer_leads : (σ μ : State) (p : List ℕ) (x : Answer) (h : Answered capacity σ p x μ) → Leads σ μ (of_answer capacity σ p x μ h) (λ m. delivered_by m x.session x.reply)
+  answer_leads : (σ μ : State) (p : List ℕ) (x : PayloadReply) (h : Answered capacity σ p x μ) → Leads σ μ (of_answer capacity σ p x μ h) (λ m. delivered_by m x.session x.reply)
   answer_leads σ μ p x (inl h) = read_leads σ μ (whole p) x h
   answer_leads σ μ p x (inr h) = quiet_leads σ μ x h.same (ap item_of h.reply)
 
-  ran_leads : (σ τ : State) (ps : List (List ℕ)) (xs : List Answer) (ran : AnsweredAll capacity σ ps xs τ) → Leads σ τ (of_all capacity σ ps xs τ ran) (λ m. taken_by m xs)
+  ran_leads : (σ τ : State) (ps : List (List ℕ)) (xs : List PayloadReply) (ran : AnsweredAll capacity σ ps xs τ) → Leads σ τ (of_all capacity σ ps xs τ ran) (λ m. taken_by m xs)
   ran_leads σ τ [] [] ran = stays σ τ ran
   ran_leads σ τ (p ∷ ps) [] ran = absurd ran
   ran_leads σ τ [] (x ∷ xs) ran = absurd ran
   ran_leads σ τ (p ∷ ps) (x ∷ xs) (μ, one, rest) =
       then_leads σ μ τ (of_answer capacity σ p x μ one) (of_all capacity μ ps xs τ rest) (λ m. delivered_by m x.session x.reply) (λ m. taken_by m xs) (answer_leads σ μ p x one) (ran_leads μ τ ps xs rest)
 
-  pub run_leads : (σ : State) (ps : List (List ℕ)) (xs : List Answer) (s : IsRun capacity σ ps xs) → Leads σ s.last (account capacity σ ps xs s) (λ m. taken_by m xs)
+  pub run_leads : (σ : State) (ps : List (List ℕ)) (xs : List PayloadReply) (s : IsRun capacity σ ps xs) → Leads σ s.last (account capacity σ ps xs s) (λ m. taken_by m xs)
   run_leads σ ps xs s = ran_leads σ s.last ps xs s.ran
 
-  ran_length : (σ τ : State) (ps : List (List ℕ)) (xs : List Answer) → AnsweredAll capacity σ ps xs τ → length xs ≡ length ps
+  ran_length : (σ τ : State) (ps : List (List ℕ)) (xs : List PayloadReply) → AnsweredAll capacity σ ps xs τ → length xs ≡ length ps
   ran_length σ τ [] [] ran = refl
   ran_length σ τ (p ∷ ps) [] ran = absurd ran
   ran_length σ τ [] (x ∷ xs) ran = absurd ran
   ran_length σ τ (p ∷ ps) (x ∷ xs) (μ, one, rest) = ap suc (ran_length μ τ ps xs rest)
 
-  pub said_each : (σ : State) (ps : List (List ℕ)) (xs : List Answer) → IsRun capacity σ ps xs → length xs ≡ length ps
+  pub said_each : (σ : State) (ps : List (List ℕ)) (xs : List PayloadReply) → IsRun capacity σ ps xs → length xs ≡ length ps
   said_each σ ps xs s = ran_length σ s.last ps xs s.ran
 
   request_once : (σ μ ν : State) (n : ℕ) (a : Request) (r q : Reply) → IsBounded σ → r ≢ reply.NoMemory → q ≢ reply.NoMemory → IsMadeOf capacity σ n a r μ → IsMadeOf capacity σ n a q ν → (r ≡ q) × (μ ≡ ν)
@@ -205,7 +205,7 @@ module _ (capacity : ℕ) where
   request_once σ μ ν n (DoCommand c) r q bounded e f (inr h) (inr k) = driven_once σ μ ν n c r q bounded e f h k
   request_once σ μ ν n a r q bounded e f (inr h) (inr k) = absurd h
 
-  term_once : (σ μ ν : State) (t : PlainTerm) (x y : Answer) → IsBounded σ → Unrefused x → Unrefused y → AnsweredTerm capacity σ t x μ → AnsweredTerm capacity σ t y ν → (x ≡ y) × (μ ≡ ν)
+  term_once : (σ μ ν : State) (t : PlainTerm) (x y : PayloadReply) → IsBounded σ → Unrefused x → Unrefused y → AnsweredTerm capacity σ t x μ → AnsweredTerm capacity σ t y ν → (x ≡ y) × (μ ≡ ν)
   term_once σ μ ν t x y bounded e f (inl h) (inl k) = (answer_of x y (number_once t x.session y.session h.under k.under) (h.reply ∙ sym k.reply), h.same ∙ sym k.same)
   term_once σ μ ν t x y bounded e f (inl h) (inr k) = absurd (h.nothing y.session k.asked k.session k.formed k.spelled)
   term_once σ μ ν t x y bounded e f (inr h) (inl k) = absurd (k.nothing x.session h.asked h.session h.formed h.spelled)
@@ -215,11 +215,11 @@ module _ (capacity : ℕ) where
       (subst (λ (a : Request). IsMadeOf capacity σ x.session a y.reply ν) (sym same.1) (subst (λ (n : ℕ). IsMadeOf capacity σ n k.asked y.reply ν) (sym same.0) k.made)) in
       (answer_of x y same.0 once.0, once.1)
 
-  read_once : (σ μ ν : State) (read : Result PlainTerm Stop) (x y : Answer) → IsBounded σ → Unrefused x → Unrefused y → AnsweredRead capacity σ read x μ → AnsweredRead capacity σ read y ν → (x ≡ y) × (μ ≡ ν)
+  read_once : (σ μ ν : State) (read : Result PlainTerm Stop) (x y : PayloadReply) → IsBounded σ → Unrefused x → Unrefused y → AnsweredRead capacity σ read x μ → AnsweredRead capacity σ read y ν → (x ≡ y) × (μ ≡ ν)
   read_once σ μ ν (Err f) x y bounded g i h k = (h.0 ∙ sym k.0, h.1 ∙ sym k.1)
   read_once σ μ ν (Ok t) x y bounded e f h k = term_once σ μ ν t x y bounded e f h k
 
-  answer_once : (σ μ ν : State) (p : List ℕ) (x y : Answer) → IsBounded σ → Unrefused x → Unrefused y → Answered capacity σ p x μ → Answered capacity σ p y ν → (x ≡ y) × (μ ≡ ν)
+  answer_once : (σ μ ν : State) (p : List ℕ) (x y : PayloadReply) → IsBounded σ → Unrefused x → Unrefused y → Answered capacity σ p x μ → Answered capacity σ p y ν → (x ≡ y) × (μ ≡ ν)
   answer_once σ μ ν p x y bounded e f (inl h) (inl k) = read_once σ μ ν (whole p) x y bounded e f h k
   answer_once σ μ ν p x y bounded e f (inr h) k = absurd (e h.reply)
   answer_once σ μ ν p x y bounded e f (inl h) (inr k) = absurd (f k.reply)
@@ -237,16 +237,16 @@ module _ (capacity : ℕ) where
   request_bounded σ μ n (DoCommand c) r bounded (inr driven) = calls_bounded n σ μ driven.calls bounded driven.ran
   request_bounded σ μ n a r bounded (inr driven) = absurd driven
 
-  read_bounded : (σ μ : State) (read : Result PlainTerm Stop) (x : Answer) → IsBounded σ → AnsweredRead capacity σ read x μ → IsBounded μ
+  read_bounded : (σ μ : State) (read : Result PlainTerm Stop) (x : PayloadReply) → IsBounded σ → AnsweredRead capacity σ read x μ → IsBounded μ
   read_bounded σ μ (Err f) x bounded h = subst IsBounded (sym h.1) bounded
   read_bounded σ μ (Ok t) x bounded (inl h) = subst IsBounded (sym h.same) bounded
   read_bounded σ μ (Ok t) x bounded (inr h) = request_bounded σ μ x.session h.asked x.reply bounded h.made
 
-  answer_bounded : (σ μ : State) (p : List ℕ) (x : Answer) → IsBounded σ → Answered capacity σ p x μ → IsBounded μ
+  answer_bounded : (σ μ : State) (p : List ℕ) (x : PayloadReply) → IsBounded σ → Answered capacity σ p x μ → IsBounded μ
   answer_bounded σ μ p x bounded (inl h) = read_bounded σ μ (whole p) x bounded h
   answer_bounded σ μ p x bounded (inr h) = subst IsBounded (sym h.same) bounded
 
-  ran_once : (σ τ ω : State) (ps : List (List ℕ)) (xs ys : List Answer) → IsBounded σ → NoneRefused xs → NoneRefused ys → AnsweredAll capacity σ ps xs τ → AnsweredAll capacity σ ps ys ω → (xs ≡ ys) × (τ ≡ ω)
+  ran_once : (σ τ ω : State) (ps : List (List ℕ)) (xs ys : List PayloadReply) → IsBounded σ → NoneRefused xs → NoneRefused ys → AnsweredAll capacity σ ps xs τ → AnsweredAll capacity σ ps ys ω → (xs ≡ ys) × (τ ≡ ω)
   ran_once σ τ ω [] [] [] bounded e f h k = (refl, h ∙ sym k)
   ran_once σ τ ω [] (x ∷ xs) ys bounded e f h k = absurd h
   ran_once σ τ ω [] [] (y ∷ ys) bounded e f h k = absurd k
@@ -257,7 +257,7 @@ module _ (capacity : ℕ) where
       let all = ran_once μ τ ω ps xs ys (answer_bounded σ μ p x bounded h) (All-tail Unrefused x xs e) (All-tail Unrefused y ys f) hs (subst (λ (s : State). AnsweredAll capacity s ps ys ω) (sym one.1) ks) in
       (λ i. one.0 i ∷ all.0 i, all.1)
 
-  pub said_once : (σ : State) (ps : List (List ℕ)) (xs ys : List Answer) → IsBounded σ → NoneRefused xs → NoneRefused ys → IsRun capacity σ ps xs → IsRun capacity σ ps ys → xs ≡ ys
+  pub said_once : (σ : State) (ps : List (List ℕ)) (xs ys : List PayloadReply) → IsBounded σ → NoneRefused xs → NoneRefused ys → IsRun capacity σ ps xs → IsRun capacity σ ps ys → xs ≡ ys
   said_once σ ps xs ys bounded e f s t = (ran_once σ s.last t.last ps xs ys bounded e f s.ran t.ran).0
 
   request_calm : (n : ℕ) (σ μ : State) (a : Request) (r : Reply) → IsMadeOf capacity σ n a r μ → IsSole n σ → IsSole n μ × Calm r
@@ -267,13 +267,13 @@ module _ (capacity : ℕ) where
       (all.0, last_reply Calm (record { no_memory = ((λ e. cc), (λ e. cc)); no_wait = ((λ e. cc), (λ e. cc)); no_more = ((λ e. cc), (λ e. cc)); terms = λ ts. ((λ e. cc), (λ e. cc)) }) c d.calls r d.one_shot all.1)
   request_calm n σ μ a r (inr d) sole = absurd d
 
-  made_alone : (n : ℕ) (σ μ : State) (x : Answer) (a : Request) → x.session ≡ n → IsMadeOf capacity σ x.session a x.reply μ → IsSole n σ → Alone n μ x
+  made_alone : (n : ℕ) (σ μ : State) (x : PayloadReply) (a : Request) → x.session ≡ n → IsMadeOf capacity σ x.session a x.reply μ → IsSole n σ → Alone n μ x
   made_alone n σ μ x a mine made sole =
       let here = request_calm n σ μ a x.reply (subst (λ (m : ℕ). IsMadeOf capacity σ m a x.reply μ) mine made) sole in
       record { sole = here.0; wait = here.1.0; restart = here.1.1 }
 
-  read_alone : (n : ℕ) (σ μ : State) (read : Result PlainTerm Stop) (x : Answer) → ((t : PlainTerm) (m : ℕ) → read ≡ Ok t → IsNumbered t m → m ≡ n) → AnsweredRead capacity σ read x μ → IsSole n σ → Alone n μ x
-  read_alone n σ μ (Err f) x of h sole = stays_alone n σ μ x h.1 (λ e. waits (sym (ap (λ y. Answer.reply y) h.0) ∙ e)) (λ e. restarts (sym (ap (λ y. Answer.reply y) h.0) ∙ e)) sole
+  read_alone : (n : ℕ) (σ μ : State) (read : Result PlainTerm Stop) (x : PayloadReply) → ((t : PlainTerm) (m : ℕ) → read ≡ Ok t → IsNumbered t m → m ≡ n) → AnsweredRead capacity σ read x μ → IsSole n σ → Alone n μ x
+  read_alone n σ μ (Err f) x of h sole = stays_alone n σ μ x h.1 (λ e. waits (sym (ap (λ y. PayloadReply.reply y) h.0) ∙ e)) (λ e. restarts (sym (ap (λ y. PayloadReply.reply y) h.0) ∙ e)) sole
     where
       waits : reply.BadTerm ≡ reply.Waiting → ⊥
       waits e = cc
@@ -289,7 +289,7 @@ module _ (capacity : ℕ) where
       restarts e = cc
   read_alone n σ μ (Ok t) x of (inr h) sole = made_alone n σ μ x h.asked (of t x.session refl (h.session, ap number_in (sym h.spelled))) h.made sole
 
-  answer_alone : (n : ℕ) (σ μ : State) (p : List ℕ) (x : Answer) → IsOf n p → Answered capacity σ p x μ → IsSole n σ → Alone n μ x
+  answer_alone : (n : ℕ) (σ μ : State) (p : List ℕ) (x : PayloadReply) → IsOf n p → Answered capacity σ p x μ → IsSole n σ → Alone n μ x
   answer_alone n σ μ p x of (inl h) sole = read_alone n σ μ (whole p) x of h sole
   answer_alone n σ μ p x of (inr h) sole = stays_alone n σ μ x h.same (λ e. waits (sym h.reply ∙ e)) (λ e. restarts (sym h.reply ∙ e)) sole
     where
@@ -299,7 +299,7 @@ module _ (capacity : ℕ) where
       restarts : reply.NoMemory ≡ reply.Restart → ⊥
       restarts e = cc
 
-  ran_alone : (n : ℕ) (σ τ : State) (ps : List (List ℕ)) (xs : List Answer) → AreOf n ps → AnsweredAll capacity σ ps xs τ → IsSole n σ → NoneWaits xs
+  ran_alone : (n : ℕ) (σ τ : State) (ps : List (List ℕ)) (xs : List PayloadReply) → AreOf n ps → AnsweredAll capacity σ ps xs τ → IsSole n σ → NoneWaits xs
   ran_alone n σ τ [] [] of ran sole = All-nil GoesOn
   ran_alone n σ τ (p ∷ ps) [] of ran sole = absurd ran
   ran_alone n σ τ [] (x ∷ xs) of ran sole = absurd ran
@@ -307,5 +307,5 @@ module _ (capacity : ℕ) where
       let first = answer_alone n σ μ p x (All-head (IsOf n) p ps of) one sole in
       All-cons GoesOn x xs (first.wait, first.restart) (ran_alone n μ τ ps xs (All-tail (IsOf n) p ps of) rest first.sole)
 
-  pub said_alone : (n : ℕ) (σ : State) (ps : List (List ℕ)) (xs : List Answer) → AreOf n ps → IsSole n σ → IsRun capacity σ ps xs → NoneWaits xs
+  pub said_alone : (n : ℕ) (σ : State) (ps : List (List ℕ)) (xs : List PayloadReply) → AreOf n ps → IsSole n σ → IsRun capacity σ ps xs → NoneWaits xs
   said_alone n σ ps xs of sole s = ran_alone n σ s.last ps xs of s.ran sole

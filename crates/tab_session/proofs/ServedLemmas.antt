@@ -8,7 +8,7 @@ use Rattle.tab_session.specs.declared.ended.Ended.{Ended}
 use Rattle.tab_session.specs.declared.ended.Ended.TheVariants.{Damaged, Device, TooLong, NoMemory}
 use Rattle.std.specs.Io.KnownBytes.{Appends, Keeps}
 use Rattle.std.proofs.lemmas.List.{append-nil, drop_all}
-use Rattle.tab_session.specs.declared.answered.Answer.{Answer}
+use Rattle.tab_session.specs.declared.answered.PayloadReply.{PayloadReply}
 use Rattle.tab_model.specs.State.{State}
 use Rattle.tab_session.specs.AnsweredPayloads.{Answered, AnsweredAll, answer_frame, answer_payload}
 use Rattle.tab_session.specs.Replays.{frames_of, Handed, IsServing, Passed, WroteSome, WroteBefore, Served}
@@ -29,7 +29,7 @@ pub none_left : (ps : List Frame) (i : ℕ) → length ps ≤ i → contents (dr
 none_left ps i le = ap contents (drop_all i ps le)
 
 -- what is kept is written first
-pub handed_after : (x : Answer) (old mid new : Option (List ℕ)) (b m c : List ℕ) (r : Result (Unit {0}) Ended) → m ≡ b → Appends old mid m → Handed x mid new [] [] r → c ≡ [] → Handed x old new b c r
+pub handed_after : (x : PayloadReply) (old mid new : Option (List ℕ)) (b m c : List ℕ) (r : Result (Unit {0}) Ended) → m ≡ b → Appends old mid m → Handed x mid new [] [] r → c ≡ [] → Handed x old new b c r
 handed_after x old mid new b m c (Ok u) e h g f =
     (b ++ g.0, Appends-then old mid new m g.0 (b ++ g.0) h g.1 (ap (λ (y : List ℕ). y ++ g.0) e), ap (λ (y : List ℕ). (b ++ g.0) ++ y) f ∙ append_assoc b g.0 [] ∙ ap (λ (y : List ℕ). b ++ y) g.2)
 handed_after x old mid new b m c (Err Damaged) e h g f = absurd g
@@ -42,11 +42,11 @@ module _ (capacity : ℕ) where
   pub serving_init : (σ : State) (all : List (List ℕ)) (old : Option (List ℕ)) → IsServing capacity σ σ all all old old []
   serving_init σ all old = record { said = []; goes = λ ss τ r. r; written = []; text = Appends-none old; whole = refl }
 
-  pub serving_kept : (σ now μ : State) (all left : List (List ℕ)) (old new : Option (List ℕ)) (b c p : List ℕ) (r : Answer)
+  pub serving_kept : (σ now μ : State) (all left : List (List ℕ)) (old new : Option (List ℕ)) (b c p : List ℕ) (r : PayloadReply)
       → IsServing capacity σ now all (p ∷ left) old new b → Answered capacity now p r μ → c ≡ b ++ answer_frame r → IsServing capacity σ μ all left old new c
   serving_kept σ now μ all left old new b c p r s a e = record {
     said = s.said ++ r ∷ [];
-    goes = λ ss τ q. subst (λ (rs : List Answer). AnsweredAll capacity σ all rs τ) (sym (append_assoc s.said (r ∷ []) ss)) (s.goes (r ∷ ss) τ (μ, a, q));
+    goes = λ ss τ q. subst (λ (rs : List PayloadReply). AnsweredAll capacity σ all rs τ) (sym (append_assoc s.said (r ∷ []) ss)) (s.goes (r ∷ ss) τ (μ, a, q));
     written = s.written;
     text = s.text;
     whole = ap (λ (x : List ℕ). s.written ++ x) e ∙ sym (append_assoc s.written b (answer_frame r)) ∙ ap (λ (x : List ℕ). x ++ answer_frame r) s.whole ∙ sym (frames_one s.said r);
@@ -67,7 +67,7 @@ module _ (capacity : ℕ) where
       → IsServing capacity σ now all [] old mid b → Appends mid new b → Passed capacity σ now all old new
   serving_done σ now all old mid new b s w = record {
     replies = s.said;
-    ran = subst (λ (rs : List Answer). AnsweredAll capacity σ all rs now) (append-nil s.said) (s.goes [] now refl);
+    ran = subst (λ (rs : List PayloadReply). AnsweredAll capacity σ all rs now) (append-nil s.said) (s.goes [] now refl);
     text = Appends-then old mid new s.written b (frames_of s.said) s.text w s.whole;
   }
 
@@ -96,7 +96,7 @@ module _ (capacity : ℕ) where
     text = rw (all_taken (frames_of p.replies)) (Appends-keeps old mid new _ p.text k);
   }
 
-  pub serving_too_long : (σ now μ : State) (all left : List (List ℕ)) (old mid new : Option (List ℕ)) (b p : List ℕ) (r : Answer)
+  pub serving_too_long : (σ now μ : State) (all left : List (List ℕ)) (old mid new : Option (List ℕ)) (b p : List ℕ) (r : PayloadReply)
       → IsServing capacity σ now all (p ∷ left) old mid b → Answered capacity now p r μ → 4294967295 < length (answer_payload r) → Appends mid new b → WroteBefore capacity σ all old new
   serving_too_long σ now μ all left old mid new b p r s a lt w =
       let t = total capacity μ left in
@@ -109,12 +109,12 @@ module _ (capacity : ℕ) where
       }
 
   -- a payload was answered, and its frame handed on
-  pub serving_handed : (σ now μ : State) (all left : List (List ℕ)) (old mid new : Option (List ℕ)) (b c p : List ℕ) (r : Answer)
+  pub serving_handed : (σ now μ : State) (all left : List (List ℕ)) (old mid new : Option (List ℕ)) (b c p : List ℕ) (r : PayloadReply)
       → IsServing capacity σ now all (p ∷ left) old mid b → Answered capacity now p r μ → Handed r mid new b c (Ok tt) → IsServing capacity σ μ all left old new c
   serving_handed σ now μ all left old mid new b c p r s a h =
       serving_moved σ μ all left old mid new (b ++ answer_frame r) h.0 c (serving_kept σ now μ all left old mid b (b ++ answer_frame r) p r s a refl) h.1 h.2
 
-  pub serving_fault : (σ now μ : State) (all left : List (List ℕ)) (old mid new : Option (List ℕ)) (b c p : List ℕ) (r : Answer) (e : Ended)
+  pub serving_fault : (σ now μ : State) (all left : List (List ℕ)) (old mid new : Option (List ℕ)) (b c p : List ℕ) (r : PayloadReply) (e : Ended)
       → IsServing capacity σ now all (p ∷ left) old mid b → Answered capacity now p r μ → Handed r mid new b c (Err e) → Served capacity σ μ all old new (Err e)
   serving_fault σ now μ all left old mid new b c p r Damaged s a h = absurd h
   serving_fault σ now μ all left old mid new b c p r Device s a h =

@@ -18,7 +18,7 @@ use Rattle.tab_model.specs.Run as model
 use Rattle.tab_model.specs.Run.{entries}
 use Rattle.tab_proto.specs.Requests.{Request}
 use Rattle.tab_oneshot.specs.Calls.{Call, Asked, Waited, Again}
-use Rattle.tab_session.specs.declared.answered.Answer.{Answer}
+use Rattle.tab_session.specs.declared.answered.PayloadReply.{PayloadReply}
 use Rattle.tab_session.specs.StepsMade.{IsStepMade, StepMadeOrRefused}
 use Rattle.tab_session.specs.OneSessions.{Ran}
 use Rattle.tab_session.specs.AnsweredPayloads.{ask_for, IsDrivenRequest, IsMadeOf, AnsweredTerm, AnsweredRead, Answered, AnsweredAll}
@@ -78,29 +78,29 @@ module _ (capacity : ℕ) where
   of_request σ n a r μ (inr driven) = of_driven σ n a r μ driven
 
   -- a payload
-  abbrev pub of_term : (σ : State) (t : PlainTerm) (x : Answer) (μ : State) → AnsweredTerm capacity σ t x μ → Account
+  abbrev pub of_term : (σ : State) (t : PlainTerm) (x : PayloadReply) (μ : State) → AnsweredTerm capacity σ t x μ → Account
   of_term σ t x μ (inl no_command) = nothing_done
   of_term σ t x μ (inr made) = of_request σ x.session made.asked x.reply μ made.made
 
   -- a payload as it was read; one that is no term leaves nothing
-  abbrev pub of_read : (σ : State) (read : Result PlainTerm Stop) (x : Answer) (μ : State) → AnsweredRead capacity σ read x μ → Account
+  abbrev pub of_read : (σ : State) (read : Result PlainTerm Stop) (x : PayloadReply) (μ : State) → AnsweredRead capacity σ read x μ → Account
   of_read σ (Err f) x μ answered = nothing_done
   of_read σ (Ok t) x μ answered = of_term σ t x μ answered
 
   -- a payload that was answered; one that was refused for memory leaves nothing
-  abbrev pub of_answer : (σ : State) (payload : List ℕ) (x : Answer) (μ : State) → Answered capacity σ payload x μ → Account
+  abbrev pub of_answer : (σ : State) (payload : List ℕ) (x : PayloadReply) (μ : State) → Answered capacity σ payload x μ → Account
   of_answer σ payload x μ (inl answered) = of_read σ (whole payload) x μ answered
   of_answer σ payload x μ (inr refused) = nothing_done
 
   -- payloads that were answered one after another
-  abbrev pub of_all : (σ : State) (ps : List (List ℕ)) (xs : List Answer) (τ : State) → AnsweredAll capacity σ ps xs τ → Account
+  abbrev pub of_all : (σ : State) (ps : List (List ℕ)) (xs : List PayloadReply) (τ : State) → AnsweredAll capacity σ ps xs τ → Account
   of_all σ [] [] τ ran = nothing_done
   of_all σ (p ∷ ps) [] τ ran = nothing_done
   of_all σ [] (x ∷ xs) τ ran = nothing_done
   of_all σ (p ∷ ps) (x ∷ xs) τ (μ, one, ran) = joined (of_answer σ p x μ one) (of_all μ ps xs τ ran)
 
   -- a run
-  abbrev pub account : (σ : State) (ps : List (List ℕ)) (xs : List Answer) → IsRun capacity σ ps xs → Account
+  abbrev pub account : (σ : State) (ps : List (List ℕ)) (xs : List PayloadReply) → IsRun capacity σ ps xs → Account
   account σ ps xs s = of_all σ ps xs s.last s.ran
 
 -- an entry that is a commit of this session, the next after so many, and told what it is told alone on these tables

@@ -18,7 +18,7 @@ use Rattle.tab_core.specs.Steps.{takes_no_memory}
 use Rattle.tab_proto.specs.Requests.{Request, request_term, IsSession, IsRequest, IsNumbered, HasNoNumber, AsksOneShot}
 use Rattle.tab_proto.specs.Replies.{response}
 use Rattle.tab_oneshot.specs.OneShots.{is_one_shot}
-use Rattle.tab_session.specs.declared.answered.Answer.{Answer}
+use Rattle.tab_session.specs.declared.answered.PayloadReply.{PayloadReply}
 use Rattle.tab_session.specs.StepsMade.{IsStepMade}
 use Rattle.tab_session.specs.OneSessions.{IsDriven}
 
@@ -45,7 +45,7 @@ abbrev pub IsNumberOf : PlainTerm → ℕ → Type 0
 IsNumberOf t n = (n ≡ 0) × HasNoNumber t ⊎ IsNumbered t n
 
 -- no command: refused, with nothing changed
-pub record IsNoCommand (σ : State) (t : PlainTerm) (x : Answer) (μ : State) : Type 0 where
+pub record IsNoCommand (σ : State) (t : PlainTerm) (x : PayloadReply) (μ : State) : Type 0 where
   pub nothing : AsksNothing t
   pub reply : x.reply ≡ BadCommand
   pub same : μ ≡ σ
@@ -70,7 +70,7 @@ module _ (capacity : ℕ) where
   RepliesTo σ session a r μ = IsMadeOf σ session a r μ ⊎ TakesStep σ session a × (r ≡ NoMemory) × (μ ≡ σ)
 
   -- the term is a request of the answer's session, and it was made
-  pub record IsMade (σ : State) (t : PlainTerm) (x : Answer) (μ : State) : Type 0 where
+  pub record IsMade (σ : State) (t : PlainTerm) (x : PayloadReply) (μ : State) : Type 0 where
     pub asked : Request
     pub spelled : request_term x.session asked ≡ t
     pub session : IsSession x.session
@@ -78,11 +78,11 @@ module _ (capacity : ℕ) where
     pub made : IsMadeOf σ x.session asked x.reply μ
 
   -- the term was refused as no command, or its request was made
-  abbrev pub AnsweredTerm : State → PlainTerm → Answer → State → Type 0
+  abbrev pub AnsweredTerm : State → PlainTerm → PayloadReply → State → Type 0
   AnsweredTerm σ t x μ = IsNoCommand σ t x μ ⊎ IsMade σ t x μ
 
   -- no term: badterm under 0, with nothing changed; a term: answered as a term is
-  abbrev pub AnsweredRead : State → Result PlainTerm Stop → Answer → State → Type 0
+  abbrev pub AnsweredRead : State → Result PlainTerm Stop → PayloadReply → State → Type 0
   AnsweredRead σ (Err f) x μ = (x ≡ record { session = 0; reply = BadTerm }) × (μ ≡ σ)
   AnsweredRead σ (Ok t) x μ = AnsweredTerm σ t x μ
 
@@ -100,7 +100,7 @@ module _ (capacity : ℕ) where
   TakesMemory σ t session = IsNumbered t session × (AsksOneShot t ⊎ AsksStep σ t)
 
   -- refused for memory, with nothing changed
-  pub record RefusedTerm (σ : State) (t : PlainTerm) (x : Answer) (μ : State) : Type 0 where
+  pub record RefusedTerm (σ : State) (t : PlainTerm) (x : PayloadReply) (μ : State) : Type 0 where
     pub reply : x.reply ≡ NoMemory
     pub same : μ ≡ σ
     pub under : TakesMemory σ t x.session
@@ -111,29 +111,29 @@ module _ (capacity : ℕ) where
   IsUnderRead σ (Ok t) session = (session ≡ 0) ⊎ TakesMemory σ t session
 
   -- the payload was refused for memory, with nothing changed
-  pub record Refused (σ : State) (read : Result PlainTerm Stop) (x : Answer) (μ : State) : Type 0 where
+  pub record Refused (σ : State) (read : Result PlainTerm Stop) (x : PayloadReply) (μ : State) : Type 0 where
     pub reply : x.reply ≡ NoMemory
     pub same : μ ≡ σ
     pub under : IsUnderRead σ read x.session
 
   -- the payload was answered as it reads, or refused for memory
-  abbrev pub Answered : State → List ℕ → Answer → State → Type 0
+  abbrev pub Answered : State → List ℕ → PayloadReply → State → Type 0
   Answered σ payload x μ = AnsweredRead σ (whole payload) x μ ⊎ Refused σ (whole payload) x μ
 
   -- payloads answered one after another
-  abbrev pub AnsweredAll : State → List (List ℕ) → List Answer → State → Type 0
+  abbrev pub AnsweredAll : State → List (List ℕ) → List PayloadReply → State → Type 0
   AnsweredAll σ [] [] τ = τ ≡ σ
   AnsweredAll σ (p ∷ ps) [] τ = ⊥
   AnsweredAll σ [] (x ∷ xs) τ = ⊥
   AnsweredAll σ (p ∷ ps) (x ∷ xs) τ = (μ : State) × Answered σ p x μ × AnsweredAll μ ps xs τ
 
 -- no answer of a run is a want of memory
-abbrev pub NoneRefused : List Answer → Type 0
-NoneRefused xs = All (λ (x : Answer). x.reply ≢ NoMemory) xs
+abbrev pub NoneRefused : List PayloadReply → Type 0
+NoneRefused xs = All (λ (x : PayloadReply). x.reply ≢ NoMemory) xs
 
 -- no answer of a run is a wait or a restart
-abbrev pub NoneWaits : List Answer → Type 0
-NoneWaits xs = All (λ (x : Answer). (x.reply ≢ Waiting) × (x.reply ≢ Restart)) xs
+abbrev pub NoneWaits : List PayloadReply → Type 0
+NoneWaits xs = All (λ (x : PayloadReply). (x.reply ≢ Waiting) × (x.reply ≢ Restart)) xs
 
 -- where a number stands in this payload, it is this session's
 abbrev pub IsOf : ℕ → List ℕ → Type 0
@@ -144,15 +144,15 @@ abbrev pub AreOf : ℕ → List (List ℕ) → Type 0
 AreOf n ps = All (IsOf n) ps
 
 -- the items that a session took in a run
-abbrev pub taken_by : ℕ → List Answer → List Item
+abbrev pub taken_by : ℕ → List PayloadReply → List Item
 taken_by m xs = flat_map (λ x. delivered_by m x.session x.reply) xs
 
 -- ---- the bytes of an answer
 
 -- one payload, whose first byte is the version of the external term format
-abbrev pub answer_payload : Answer → List ℕ
+abbrev pub answer_payload : PayloadReply → List ℕ
 answer_payload x = 131 ∷ canon (response (Some x.session) x.reply)
 
 -- the payload of an answer behind its length
-unfoldable pub answer_frame : Answer → List ℕ
+unfoldable pub answer_frame : PayloadReply → List ℕ
 answer_frame x = frame (answer_payload x)

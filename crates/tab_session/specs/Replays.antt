@@ -3,7 +3,7 @@ use Rattle.std.specs.Prelude.{◌≡◌, ◌≢◌, ℕ, ◌+◌, ◌<◌, ◌�
 use Rattle.std.specs.List.{flat_map}
 use Rattle.std.specs.Io.KnownBytes.{Appends}
 use Rattle.tab_etf.specs.Streams.{payloads, rest_of, GoesOn}
-use Rattle.tab_session.specs.declared.answered.Answer.{Answer}
+use Rattle.tab_session.specs.declared.answered.PayloadReply.{PayloadReply}
 use Rattle.tab_model.specs.State.{State, new}
 use Rattle.tab_model.specs.declared.data.Limits.{Limits}
 use Rattle.tab_session.specs.AnsweredPayloads.{AnsweredAll, answer_payload, answer_frame}
@@ -19,11 +19,11 @@ abbrev pub fresh : State
 fresh = new limits
 
 -- the frames of the answers, one after another
-abbrev pub frames_of : List Answer → List ℕ
+abbrev pub frames_of : List PayloadReply → List ℕ
 frames_of rs = flat_map answer_frame rs
 
 -- there is a first answer, and its payload has over 4,294,967,295 bytes
-abbrev pub BeginsTooLong : List Answer → Type 0
+abbrev pub BeginsTooLong : List PayloadReply → Type 0
 BeginsTooLong [] = ⊥
 BeginsTooLong (r ∷ rs) = 4294967295 < length (answer_payload r)
 
@@ -60,7 +60,7 @@ HasFlushed (Err TooLong) flushed = Unit {0}
 HasFlushed (Err NoMemory) flushed = Unit {0}
 
 -- the frame of an answer was kept behind those that are kept, or written with them: what a writer had and has, and what is kept
-abbrev pub Handed : Answer → Option (List ℕ) → Option (List ℕ) → List ℕ → List ℕ → Result (Unit {0}) Ended → Type 0
+abbrev pub Handed : PayloadReply → Option (List ℕ) → Option (List ℕ) → List ℕ → List ℕ → Result (Unit {0}) Ended → Type 0
 Handed x old new kept rest (Ok u) = (written : List ℕ) × Appends old new written × (written ++ rest ≡ kept ++ answer_frame x)
 Handed x old new kept rest (Err Damaged) = ⊥
 Handed x old new kept rest (Err Device) = (n : ℕ) × Appends old new (take n (kept ++ answer_frame x))
@@ -69,34 +69,34 @@ Handed x old new kept rest (Err NoMemory) = ⊥
 
 module _ (capacity : ℕ) where
   -- a run over all these payloads says these replies
-  pub record IsRun (σ : State) (ps : List (List ℕ)) (rs : List Answer) : Type 0 where
+  pub record IsRun (σ : State) (ps : List (List ℕ)) (rs : List PayloadReply) : Type 0 where
     pub last : State
     pub ran : AnsweredAll capacity σ ps rs last
 
   -- the frames of all replies were written
   pub record WroteAll (σ : State) (ps : List (List ℕ)) (old new : Option (List ℕ)) : Type 0 where
-    pub replies : List Answer
+    pub replies : List PayloadReply
     pub said : IsRun σ ps replies
     pub text : Appends old new (frames_of replies)
 
   -- a beginning of the text was written
   pub record WroteSome (σ : State) (ps : List (List ℕ)) (old new : Option (List ℕ)) : Type 0 where
-    pub replies : List Answer
+    pub replies : List PayloadReply
     pub said : IsRun σ ps replies
     pub count : ℕ
     pub text : Appends old new (take count (frames_of replies))
 
   -- the frames of the replies before one that is too long were written
   pub record WroteBefore (σ : State) (ps : List (List ℕ)) (old new : Option (List ℕ)) : Type 0 where
-    pub first : List Answer
-    pub others : List Answer
+    pub first : List PayloadReply
+    pub others : List PayloadReply
     pub said : IsRun σ ps (first ++ others)
     pub text : Appends old new (frames_of first)
     pub next : BeginsTooLong others
 
   -- all payloads were answered, from the one state to the other, and the frames of the answers were written
   pub record Passed (σ τ : State) (ps : List (List ℕ)) (old new : Option (List ℕ)) : Type 0 where
-    pub replies : List Answer
+    pub replies : List PayloadReply
     pub ran : AnsweredAll capacity σ ps replies τ
     pub text : Appends old new (frames_of replies)
 
@@ -128,8 +128,8 @@ module _ (capacity : ℕ) where
 
   -- the loop over the payloads of a piece: what was said, and how a run goes on
   pub record IsServing (σ now : State) (all left : List (List ℕ)) (old new : Option (List ℕ)) (buffer : List ℕ) : Type 0 where
-    pub said : List Answer
-    pub goes : (ss : List Answer) (τ : State) → AnsweredAll capacity now left ss τ → AnsweredAll capacity σ all (said ++ ss) τ
+    pub said : List PayloadReply
+    pub goes : (ss : List PayloadReply) (τ : State) → AnsweredAll capacity now left ss τ → AnsweredAll capacity σ all (said ++ ss) τ
     pub written : List ℕ
     pub text : Appends old new written
     pub whole : written ++ buffer ≡ frames_of said
@@ -141,9 +141,9 @@ module _ (capacity : ℕ) where
     pub parts : read ++ more ≡ stream
     pub has : left ≡ Some more
     pub done : List (List ℕ)
-    pub said : List Answer
+    pub said : List PayloadReply
     pub cut : GoesOn read done held
-    pub goes : (qs : List (List ℕ)) (ss : List Answer) (τ : State) → AnsweredAll capacity now qs ss τ → AnsweredAll capacity fresh (done ++ qs) (said ++ ss) τ
+    pub goes : (qs : List (List ℕ)) (ss : List PayloadReply) (τ : State) → AnsweredAll capacity now qs ss τ → AnsweredAll capacity fresh (done ++ qs) (said ++ ss) τ
     pub text : Appends old new (frames_of said)
     pub count : rounds + length more ≤ length stream
 

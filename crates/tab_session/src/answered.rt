@@ -1,14 +1,14 @@
 use tab_model::SharedReply;
 
 /// A reply under the number of the session that asked, or under 0 where none could be read.
-pub struct Answer {
+pub struct PayloadReply {
     pub session: u32,
     pub reply: SharedReply,
 }
 
-impl Drop for Answer {
+impl Drop for PayloadReply {
     fn drop(self) {
-        let Answer { session: _, reply } = self;
+        let PayloadReply { session: _, reply } = self;
         drop(reply);
     }
 }

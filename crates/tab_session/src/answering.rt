@@ -11,7 +11,7 @@ ghost use Rattle.tab_session.specs.AnsweredPayloads.{IsNumberOf, Answered, Answe
 ghost use Rattle.tab_session.specs.Replays.{Handed, OneFault};
 
 use crate::one_session::drive;
-use crate::{Answer, Ended};
+use crate::{Ended, PayloadReply};
 use std::alloc::{AllocError, Global};
 use tab_core::{Core, Step, Stepped};
 use tab_etf::{EtfFault, FrameFault, Target, decode};
@@ -23,37 +23,42 @@ use tab_term::Term;
 /// Answers a payload: what is no term is BadTerm under 0, and a term that asks nothing is BadCommand, under the number in
 /// `{Session, X}` or else under 0. A step that is refused for memory is answered NoMemory, and has changed nothing. A one-shot
 /// is answered by the steps of its driver. A session that joins has a post for so many items as `outbox` says.
-pub fn answer(core: &mut Core<RingPost>, alloc: Global, outbox: usize, payload: &[u8]) -> Answer
+pub fn answer(
+    core: &mut Core<RingPost>,
+    alloc: Global,
+    outbox: usize,
+    payload: &[u8],
+) -> PayloadReply
     ensures { Answered outbox core.old payload.now result core.new }
 {
     match decode(alloc, payload) {
         Ok(held) => answer_to(core, alloc, outbox, held),
-        Err(EtfFault::At(_, _)) => Answer {
+        Err(EtfFault::At(_, _)) => PayloadReply {
             session: 0,
             reply: SharedReply::new(Reply::BadTerm),
         },
-        Err(EtfFault::NoMemory) => Answer {
+        Err(EtfFault::NoMemory) => PayloadReply {
             session: 0,
             reply: SharedReply::new(Reply::NoMemory),
         },
     }
 }
 
-fn answer_to(core: &mut Core<RingPost>, alloc: Global, outbox: usize, held: Term) -> Answer
+fn answer_to(core: &mut Core<RingPost>, alloc: Global, outbox: usize, held: Term) -> PayloadReply
     ensures { AnsweredTerm outbox core.old (term held) result core.new
         ⊎ RefusedTerm outbox core.old (term held) result core.new }
 {
     let number = number_of(&held);
     match read_request(alloc, held) {
-        Ok((session, request)) => Answer {
+        Ok((session, request)) => PayloadReply {
             session,
             reply: reply_to(core, alloc, outbox, session, request),
         },
-        Err(ProtoFault::BadCommand) => Answer {
+        Err(ProtoFault::BadCommand) => PayloadReply {
             session: number,
             reply: SharedReply::new(Reply::BadCommand),
         },
-        Err(ProtoFault::NoMemory) => Answer {
+        Err(ProtoFault::NoMemory) => PayloadReply {
             session: number,
             reply: SharedReply::new(Reply::NoMemory),
         },
@@ -107,7 +112,7 @@ fn join_refusal(core: &Core<RingPost>, session: u32) -> Option<Reply>
     ensures { MatchOption result (JoinTakesMemory core.now session)
         (IsJoinRefused core.now session) }
 {
-    if core.joined(u64::from(session)) {
+    if core.joined(session) {
         return Some(Reply::BadSession);
     }
     if session <= core.greatest() {
@@ -166,7 +171,7 @@ pub struct Unkept;
 
 /// Adds the frame of `{Session, Reply}`, where that takes no more than so many bytes, or holds no list. On an error the bytes are as before.
 #[tactic(auto, unfolding(crate::specs::AnsweredPayloads::answer_frame))]
-pub fn put_answer(answer: &Answer, most: usize, out: &mut Vec<u8>) -> Result<(), Unkept>
+pub fn put_answer(answer: &PayloadReply, most: usize, out: &mut Vec<u8>) -> Result<(), Unkept>
     ensures ok { OnOk result (out.new.items ≡ out.old.items ++ answer_frame answer.now) }
     ensures same { OnErr result (out.new.items ≡ out.old.items) }
 {
@@ -178,7 +183,7 @@ pub fn put_answer(answer: &Answer, most: usize, out: &mut Vec<u8>) -> Result<(),
 
 /// Writes the frame of `{Session, Reply}`, and takes no memory.
 #[tactic(auto, unfolding(crate::specs::AnsweredPayloads::answer_frame))]
-pub fn write_answer<W: Target>(answer: &Answer, output: &mut W) -> Result<(), Ended>
+pub fn write_answer<W: Target>(answer: &PayloadReply, output: &mut W) -> Result<(), Ended>
     ensures handed { Handed answer.now (W.contents output.old)
         (W.contents output.new) [] [] result }
     ensures faults { OneFault (W.faults output.old) (W.faults output.new) result }

@@ -15,7 +15,7 @@ ghost use Rattle.tab_model.specs.Callers.{Observation, observe_all, AreObserved}
 ghost use Rattle.tab_model.specs.Refusals.{IsSole};
 ghost use Rattle.tab_model.specs.Run.{IsTied};
 ghost use Rattle.tab_proto.specs.Commands.{is_command};
-ghost use Rattle.tab_session.specs.declared.answered.Answer.{Answer as AnswerOf};
+ghost use Rattle.tab_session.specs.declared.answered.PayloadReply.{PayloadReply as AnswerOf};
 ghost use Rattle.tab_session.specs.AnsweredPayloads.{NoneRefused, NoneWaits, AreOf, taken_by};
 ghost use Rattle.tab_session.specs.Bounded.{IsBounded};
 ghost use Rattle.tab_session.specs.Accounts.{account, calls_in, replies_in, of_calls, IsOneCommit};

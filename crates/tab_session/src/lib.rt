@@ -10,7 +10,7 @@ mod one_session;
 mod replaying;
 mod serving;
 
-pub use answered::Answer;
+pub use answered::PayloadReply;
 pub use answering::answer;
 pub use ended::Ended;
 pub use laws::{

@@ -16,15 +16,6 @@ use tab_outbox::RingPost;
 /// The largest piece that is read at once.
 const PIECE: usize = 65_536;
 
-const LIMITS: Limits = Limits {
-    sessions: 64,
-    nesting: 16,
-    operations: 1000,
-    tables: 256,
-    ages: 9_223_372_036_854_775_807,
-    journal: 1024,
-};
-
 fn run_all<R: Source, W: Target>(
     alloc: Global,
     core: &mut Core<RingPost>,
@@ -89,7 +80,7 @@ pub fn replay<R: Source, W: Target>(
     ensures flushed { IsTrue (W.is_flushed output.old)
         → HasFlushed result (W.is_flushed output.new) }
 {
-    let mut core = Core::new(alloc, LIMITS);
+    let mut core = Core::new(alloc, Limits::STANDARD);
     let mut splitter = Splitter::new(alloc);
     let Ok(mut piece) = vec![in alloc; 0u8; PIECE] else {
         return Err(Ended::NoMemory);

@@ -7,7 +7,7 @@ ghost use Rattle.tab_etf.specs.Streams.{payloads};
 ghost use Rattle.tab_session.specs.Replays.{IsReplaying, Advances, Handed, Served, OneFault, HasFlushed};
 
 use crate::answering::{answer, put_answer, write_answer};
-use crate::{Answer, Ended};
+use crate::{Ended, PayloadReply};
 use std::alloc::Global;
 use tab_core::Core;
 use tab_etf::{Frame, FrameFault, Splitter, Target, give_all};
@@ -30,7 +30,7 @@ fn payload_in(frame: &Frame) -> &[u8]
 
 /// Keeps the frame of a reply until there are some to be written at once. Where it is long, or no memory is found to keep it in, what is
 /// kept is written, and then this frame by itself.
-fn put<W: Target>(answer: &Answer, buffer: &mut Vec<u8>, output: &mut W) -> Result<(), Ended>
+fn put<W: Target>(answer: &PayloadReply, buffer: &mut Vec<u8>, output: &mut W) -> Result<(), Ended>
     ensures handed { Handed answer.now (W.contents output.old)
         (W.contents output.new) buffer.old.items buffer.new.items result }
     ensures faults { OneFault (W.faults output.old) (W.faults output.new) result }

@@ -15,7 +15,7 @@ pub struct Prepared {
     pub(crate) number: u64,
     pub(crate) due: VecDeque<Option<SharedItem>>,
     // Room for the sessions that overflow.
-    pub(crate) over: Vec<u64>,
+    pub(crate) over: Vec<u32>,
     pub(crate) ended: Option<Atom>,
 }
 

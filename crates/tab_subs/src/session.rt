@@ -27,7 +27,7 @@ use tab_term::Atom;
 /// A session: its open transaction, its subscriptions and its post.
 #[derive(Drop)]
 pub struct Session<P: Post> {
-    number: u64,
+    number: u32,
     transaction: Option<Transaction>,
     watching: Vec<Watched>,
     // The number of an overflow that the session was not told yet.
@@ -58,7 +58,7 @@ impl<P: Post + Drop> Session<P> {
     ghost use Rattle.tab_subs.specs.Lending.{lends_own};
 
     /// Of a session that has just joined.
-    pub fn new(alloc: Global, number: u64, post: P) -> Session<P>
+    pub fn new(alloc: Global, number: u32, post: P) -> Session<P>
         ensures { result ≡ fresh number (P.outbox post) }
     {
         Session {
@@ -71,7 +71,7 @@ impl<P: Post + Drop> Session<P> {
     }
 
     /// The session's number.
-    pub fn number(&self) -> u64
+    pub fn number(&self) -> u32
         ensures { result ≡ self.now.number }
     {
         self.number

@@ -1,6 +1,6 @@
 //! All sessions, each with its transaction, its subscriptions and its post.
 
-ghost use Rattle.std.specs.Prelude.{◌≡◌, ◌<◌, ◌∷◌, ◌++◌, [], Some, None, IfOk, OnOk, OnErr, MatchOption, length, map, option_map, option_to_list, slice_index_or};
+ghost use Rattle.std.specs.Prelude.{◌≡◌, ◌<◌, ◌∷◌, ◌++◌, [], Some, None, IfOk, OnOk, OnErr, MatchOption, length, map, count_by, is_some, option_map, option_to_list, slice_index_or};
 ghost use Rattle.std.specs.Borrow.{sem};
 ghost use Rattle.tab_model.specs.Slices.{batch_for, end_for};
 ghost use Rattle.tab_model.specs.State.{level_in, without_watch};
@@ -21,7 +21,7 @@ use std::collections::VecDeque;
 use std::marker::Model;
 use tab_events::{Event, Level};
 use tab_lists::SharedTerms;
-use tab_model::{Numbers, SharedItem};
+use tab_model::{Sessions, SharedItem};
 use tab_outbox::{Mailbox, Met, Post};
 use tab_term::Atom;
 
@@ -59,7 +59,7 @@ impl<P: Post + Drop> Subs<P> {
     }
 
     /// A session joins, with its post. Its number is above all that are joined.
-    pub fn join(&mut self, alloc: Global, session: u64, post: P) -> Result<(), AllocError>
+    pub fn join(&mut self, alloc: Global, session: u32, post: P) -> Result<(), AllocError>
         requires above { AllBelow session (numbers self.old) }
         ensures ok { OnOk result (self.new ≡ self.old ++ fresh session (P.outbox post) ∷ []) }
         ensures err { OnErr result (self.new ≡ self.old) }
@@ -71,14 +71,14 @@ impl<P: Post + Drop> Subs<P> {
     }
 
     /// A session leaves, and its post is dropped.
-    pub fn leave(&mut self, session: u64)
+    pub fn leave(&mut self, session: u32)
         ensures { self.new ≡ without self.old session }
     {
         self.sessions.retain(|slot| slot.number() != session);
     }
 
     /// The place of a session, where the calls below find it. None of one that isn't joined.
-    pub fn place(&self, session: u64) -> Option<usize>
+    pub fn place(&self, session: u32) -> Option<usize>
         ensures { MatchOption result (at self.now session ≡ None) (IsHeldAt self.now session) }
     {
         for (place, slot) in self.sessions.iter().enumerate() {
@@ -97,7 +97,7 @@ impl<P: Post + Drop> Subs<P> {
     }
 
     /// The number of the session at the place.
-    pub fn number(&self, place: usize) -> u64
+    pub fn number(&self, place: usize) -> u32
         requires { place < length self.now }
         ensures { result ≡ (slice_index_or self.now place nobody).number }
     {
@@ -122,7 +122,7 @@ impl<P: Post + Drop> Subs<P> {
     }
 
     /// What the session takes next. None of one that isn't joined.
-    pub fn take(&mut self, session: u64) -> Option<Taken>
+    pub fn take(&mut self, session: u32) -> Option<Taken>
         ensures { (self.new, result) ≡ taken_from self.old (at self.old session) }
     {
         let Some(place) = self.place(session) else {
@@ -136,7 +136,7 @@ impl<P: Post + Drop> Subs<P> {
     pub fn subscribe(
         &mut self,
         alloc: Global,
-        session: u64,
+        session: u32,
         table: Atom,
         level: Level,
         dump: Option<SharedTerms>,
@@ -159,7 +159,7 @@ impl<P: Post + Drop> Subs<P> {
     pub fn unsubscribe(
         &mut self,
         alloc: Global,
-        session: u64,
+        session: u32,
         table: &Atom,
     ) -> Result<Option<Marked>, AllocError>
         ensures ok { IfOk result
@@ -261,7 +261,7 @@ impl<P: Post + Drop> Subs<P> {
 
     /// Puts what is due, in the order of the sessions' numbers, and answers who overflowed: an item that a post refuses
     /// ends its session's subscriptions.
-    pub fn deliver(&mut self, prepared: Prepared) -> Numbers
+    pub fn deliver(&mut self, prepared: Prepared) -> Sessions
         ensures { Delivers prepared self.old self.new result }
     {
         let Prepared {
@@ -277,11 +277,11 @@ impl<P: Post + Drop> Subs<P> {
             }
             over.push_reserved(slot.number());
         }
-        Numbers { items: over }
+        Sessions { items: over }
     }
 
     /// At which level the session watches the table.
-    pub fn level(&self, session: u64, table: &Atom) -> Option<Level>
+    pub fn level(&self, session: u32, table: &Atom) -> Option<Level>
         ensures { result ≡ level_of (at self.now session) table.now }
     {
         let Some(place) = self.place(session) else {
@@ -291,7 +291,7 @@ impl<P: Post + Drop> Subs<P> {
     }
 
     /// The post of a session that is joined.
-    pub fn post(&self, session: u64) -> Option<&P>
+    pub fn post(&self, session: u32) -> Option<&P>
         ensures { option_map (λ p. P.outbox p.now) result
             ≡ option_map (λ s. s.outbox) (at self.now session) }
     {
@@ -302,13 +302,23 @@ impl<P: Post + Drop> Subs<P> {
     }
 
     /// The number of the session's overflow, where it was not told yet.
-    pub fn overflow(&self, session: u64) -> Option<u64>
+    pub fn overflow(&self, session: u32) -> Option<u64>
         ensures { result ≡ overflow_of (at self.now session) }
     {
         let Some(place) = self.place(session) else {
             return None;
         };
         self.sessions[place].overflow()
+    }
+
+    /// How many sessions watch the table.
+    pub fn watchers(&self, table: &Atom) -> usize
+        ensures { result ≡ count_by (λ s. is_some (level_in s.watching table.now)) self.now }
+    {
+        self.sessions
+            .iter()
+            .filter(|slot| slot.level(table).is_some())
+            .count()
     }
 
     /// Whether a session watches the table.
@@ -322,7 +332,7 @@ impl<P: Post + Drop> Subs<P> {
 impl<P: Mailbox + Drop> Subs<P> {
     /// Takes one item more at the other end of the session's post, or shows that all that was put is taken. None of a
     /// session that isn't joined.
-    pub fn meet(&mut self, session: u64, end: &mut P::End) -> Option<Met>
+    pub fn meet(&mut self, session: u32, end: &mut P::End) -> Option<Met>
         ensures same { self.new ≡ self.old }
         ensures end { P.mailbox end.new ≡ P.mailbox end.old }
         ensures met { Meets (option_map (λ s. s.outbox) (at self.old session)) (P.mailbox end.old)

@@ -7,3 +7,4 @@ pub mod FilterLemmas
 pub mod MatchLemmas
 pub mod TouchingLemmas
 pub mod IndexLemmas
+pub mod AnswersLemmas

@@ -2,3 +2,4 @@ pub mod Overlays
 pub mod Stores
 pub mod Kept
 pub mod Merged
+pub mod Answers

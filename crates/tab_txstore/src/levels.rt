@@ -23,7 +23,7 @@ use tab_rows::Update;
 use tab_term::{Atom, Term};
 
 /// The innermost level as it is, with what each open level goes back to.
-pub struct Levels {
+pub struct TxLevels {
     overlay: Map<Atom, Map<Term, Records>>,
     // Of all levels together, in order.
     updates: Vec<Update>,
@@ -38,7 +38,7 @@ pub struct Saved {
     updates: usize,
 }
 
-impl Model for Levels {
+impl Model for TxLevels {
     ghost use Rattle.std.specs.Prelude.{length};
     ghost use Rattle.std.specs.Coded.{codes};
     ghost use Rattle.tab_term.specs.Code.{term_code, terms_code, pairs_code};
@@ -55,9 +55,9 @@ impl Model for Levels {
 }
 
 // A derived Drop would be taken apart, field by field, at each exit of each caller.
-impl Drop for Levels {
+impl Drop for TxLevels {
     fn drop(self) {
-        let Levels {
+        let TxLevels {
             overlay,
             updates,
             saved,
@@ -68,12 +68,12 @@ impl Drop for Levels {
     }
 }
 
-impl Levels {
+impl TxLevels {
     /// Nothing touched, and no level open below the first.
-    pub fn new(alloc: Global) -> Levels
+    pub fn new(alloc: Global) -> TxLevels
         ensures { result ≡ no_levels }
     {
-        Levels {
+        TxLevels {
             overlay: Map::new(),
             updates: Vec::new(alloc),
             saved: Vec::new(alloc),
@@ -98,7 +98,7 @@ impl Levels {
     pub fn into_updates(self) -> Vec<Update>
         ensures { result.items ≡ self.now.updates }
     {
-        let Levels {
+        let TxLevels {
             overlay: _,
             updates,
             saved: _,

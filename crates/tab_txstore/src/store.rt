@@ -9,7 +9,8 @@ ghost use Rattle.tab_txstore.specs.Merged.{IsSnapshot};
 ghost use Rattle.tab_txstore.specs.Overlays.{touched, seen_at};
 ghost use Rattle.tab_txstore.specs.Stores.{no_store, store_next};
 
-use crate::levels::Levels;
+use crate::levels::TxLevels;
+use crate::whole::Whole;
 use std::alloc::{AllocError, Global};
 use std::marker::Model;
 use tab_index::IndexedTable;
@@ -27,7 +28,7 @@ pub struct TxStore {
     told: Vec<Option<LoggedReply>>,
     // Of the moves, those that count towards the limit.
     count: usize,
-    levels: Levels,
+    levels: TxLevels,
 }
 
 impl Model for TxStore {
@@ -71,30 +72,6 @@ pub struct Finished {
     pub updates: Vec<Update>,
 }
 
-/// An operation with its reply, which waits for its place.
-struct Made {
-    operation: LoggedOperation,
-    reply: LoggedReply,
-}
-
-// A derived Drop would be taken apart, variant by variant, at each exit of each caller.
-impl Drop for Made {
-    fn drop(self) {
-        let Made { operation, reply } = self;
-        drop(operation);
-        drop(reply);
-    }
-}
-
-impl Made {
-    fn into_parts(self) -> (LoggedOperation, LoggedReply)
-        ensures { result ≡ (self.operation, self.reply) }
-    {
-        let Made { operation, reply } = self;
-        (operation, reply)
-    }
-}
-
 impl TxStore {
     /// Nothing done yet.
     pub fn new(alloc: Global) -> TxStore
@@ -104,7 +81,7 @@ impl TxStore {
             moves: Vec::new(alloc),
             told: Vec::new(alloc),
             count: 0,
-            levels: Levels::new(alloc),
+            levels: TxLevels::new(alloc),
         }
     }
 
@@ -122,12 +99,14 @@ impl TxStore {
         ensures err { OnErr result (self.new ≡ self.old) }
     {
         let operation = LoggedOperation::new(alloc, committed.def().kind, operation)?;
-        let made = Made { operation, reply };
+        let made = Whole {
+            value: (operation, reply),
+        };
         reserve(&mut self.moves, self.levels.depth(), 1)?;
         reserve_told(&mut self.told, self.levels.depth(), 1)?;
         self.levels
-            .operate(alloc, committed, &made.operation, &made.reply)?;
-        let (operation, reply) = made.into_parts();
+            .operate(alloc, committed, &made.value.0, &made.value.1)?;
+        let (operation, reply) = made.into_value();
         put_move(&mut self.moves, Move::Do(operation));
         put_told(&mut self.told, Some(reply));
         self.count += 1;
@@ -147,10 +126,12 @@ impl TxStore {
     {
         // There is no table, so no set takes the record: it stays a term, as a bag's does.
         let operation = LoggedOperation::new(alloc, Kind::Bag, operation)?;
-        let made = Made { operation, reply };
+        let made = Whole {
+            value: (operation, reply),
+        };
         reserve(&mut self.moves, self.levels.depth(), 1)?;
         reserve_told(&mut self.told, self.levels.depth(), 1)?;
-        let (operation, reply) = made.into_parts();
+        let (operation, reply) = made.into_value();
         put_move(&mut self.moves, Move::Do(operation));
         put_told(&mut self.told, Some(reply));
         self.levels.end();

@@ -13,8 +13,8 @@ use Rattle.tab_locks.specs.Members.{SameMembers}
 use Rattle.tab_locks.specs.Placed.{placed, without_last}
 use Rattle.tab_locks.proofs.Passing.{any_more}
 use Rattle.tab_locks.proofs.Listing.{any_placed}
-use Rattle.tab_waitdie.specs.declared.ages.Answer.{Answer}
-use Rattle.tab_waitdie.specs.declared.ages.Answer.TheVariants.{Granted, Wait, Die}
+use Rattle.tab_waitdie.specs.declared.ages.LockDecision.{LockDecision}
+use Rattle.tab_waitdie.specs.declared.ages.LockDecision.TheVariants.{Granted, Wait, Die}
 use Rattle.tab_waitdie.specs.Decisions.{ages, answer_of, after_answer}
 
 same_rises : (held new earlier queue : List Owned) → SameMembers held new → RisesAfter held earlier queue → RisesAfter new earlier queue
@@ -24,7 +24,7 @@ same_rises held new earlier (x ∷ queue) s h = (s (blocks x) ∙ h.0, h.1, same
 placed_or_last : (x : Owned) (held : List Owned) → SameMembers (held ++ x ∷ []) (placed x held)
 placed_or_last x held = λ p. any_placed p x held ∙ sym (any_more p held x)
 
-pub answered_rises : (g : Ages) (r : Owned) (a : Answer) → answer_of a ≡ decide g r → Rises g → Rises (after_answer g r a)
+pub answered_rises : (g : Ages) (r : Owned) (a : LockDecision) → answer_of a ≡ decide g r → Rises g → Rises (after_answer g r a)
 answered_rises g r Granted e h =
     let P : plain.Answer → Type 0 = λ z. Rises (after_request g r z) in
     same_rises (g.held ++ r ∷ []) (placed r g.held) [] g.queue (placed_or_last r g.held) (subst P (sym e) (request_rises g r h))

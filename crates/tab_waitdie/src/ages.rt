@@ -4,7 +4,7 @@ ghost use Rattle.tab_model.specs.Ages.{Ages as ages_record, Chain, all_of, can_r
 ghost use Rattle.tab_locks.specs.Plain.{lock_of};
 ghost use Rattle.tab_model.specs.State.{is_in};
 ghost use Rattle.tab_locks.specs.Placed.{placed, without_last};
-ghost use Rattle.tab_waitdie.specs.declared.ages.Answer.TheVariants.{Granted};
+ghost use Rattle.tab_waitdie.specs.declared.ages.LockDecision.TheVariants.{Granted};
 ghost use Rattle.tab_waitdie.specs.Queue.{owned, queued};
 ghost use Rattle.tab_waitdie.specs.Decisions.{answer_of, after_answer, is_granted, after_retried, ages, answer_to as answer_by};
 
@@ -19,7 +19,7 @@ use tab_term::Atom;
 
 /// What is answered to a request.
 #[derive(Clone, Copy, Debug, PartialEq, Eq)]
-pub enum Answer {
+pub enum LockDecision {
     Granted,
     Wait,
     Die,
@@ -80,7 +80,7 @@ impl Ages {
 
     /// A granted lock is held once more, also where one of its own covers it; a request that waits is queued; who dies
     /// keeps what it holds. Where no queued request is in its way, to ask and to hold is one search.
-    pub fn request(&mut self, age: u64, lock: Lock) -> Result<Answer, AllocError>
+    pub fn request(&mut self, age: u64, lock: Lock) -> Result<LockDecision, AllocError>
         requires { request_of age self.old.queue ≡ None }
         ensures answer { IfOk result (λ a. answer_of a ≡ decision self.old (age, lock_of lock)) }
         ensures after { IfOk result (λ a. self.new ≡ after_answer self.old (age, lock_of lock) a) }
@@ -94,7 +94,7 @@ impl Ages {
             return self.settle(age, lock, answer);
         }
         match self.locks.ask(age, lock)? {
-            Asked::Held => Ok(Answer::Granted),
+            Asked::Held => Ok(LockDecision::Granted),
             Asked::InConflict(held, lock) => {
                 self.settle(age, lock, answer_to(held, Conflict::Free))
             }
@@ -102,7 +102,12 @@ impl Ages {
     }
 
     /// Does what is answered.
-    fn settle(&mut self, age: u64, lock: Lock, answer: Answer) -> Result<Answer, AllocError>
+    fn settle(
+        &mut self,
+        age: u64,
+        lock: Lock,
+        answer: LockDecision,
+    ) -> Result<LockDecision, AllocError>
         requires { answer_of answer ≡ decision self.old (age, lock_of lock) }
         ensures answer { IfOk result (λ a. a ≡ answer) }
         ensures after { IfOk result (λ a. self.new ≡ after_answer self.old (age, lock_of lock) a) }
@@ -111,19 +116,19 @@ impl Ages {
         ensures err { OnErr result (self.new ≡ self.old) }
     {
         match answer {
-            Answer::Granted => self.locks.hold(age, lock)?,
-            Answer::Wait => self.queue.push(Waiting { age, lock })?,
+            LockDecision::Granted => self.locks.hold(age, lock)?,
+            LockDecision::Wait => self.queue.push(Waiting { age, lock })?,
             // Where memory is refused it does not rest.
-            Answer::Die => drop(self.resting.push(Waiting { age, lock })),
+            LockDecision::Die => drop(self.resting.push(Waiting { age, lock })),
         }
         Ok(answer)
     }
 
-    fn decide(&self, age: u64, lock: &Lock) -> Answer
+    fn decide(&self, age: u64, lock: &Lock) -> LockDecision
         ensures { answer_of result ≡ decision self.now (age, lock_of lock.now) }
     {
         match self.locks.standing(age, lock) {
-            None => Answer::Granted,
+            None => LockDecision::Granted,
             Some(held) => answer_to(held, conflicts_in(&self.queue, age, lock)),
         }
     }
@@ -208,13 +213,13 @@ impl Ages {
     }
 }
 
-fn answer_to(held: Conflict, queued: Conflict) -> Answer
+fn answer_to(held: Conflict, queued: Conflict) -> LockDecision
     ensures { result ≡ answer_by held queued }
 {
     match (held, queued) {
-        (Conflict::Free, Conflict::Free) => Answer::Granted,
-        (Conflict::WithOlder, _) | (_, Conflict::WithOlder) => Answer::Die,
-        _ => Answer::Wait,
+        (Conflict::Free, Conflict::Free) => LockDecision::Granted,
+        (Conflict::WithOlder, _) | (_, Conflict::WithOlder) => LockDecision::Die,
+        _ => LockDecision::Wait,
     }
 }
 

@@ -9,5 +9,5 @@ mod ages;
 mod resting;
 mod waiting;
 
-pub use ages::{Ages, Answer, Retried, no_chain_of_waits_leads_back};
+pub use ages::{Ages, LockDecision, Retried, no_chain_of_waits_leads_back};
 pub use resting::Rest;

@@ -34,11 +34,8 @@ fn limits(service: &Service) -> Limits
 {
     Limits {
         sessions: u64::from(sessions(service)),
-        nesting: 16,
-        operations: 1000,
-        tables: 256,
-        ages: 9_223_372_036_854_775_807,
         journal: u64::from(service.sizes.journal),
+        ..Limits::STANDARD
     }
 }
 

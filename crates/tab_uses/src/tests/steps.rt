@@ -12,8 +12,7 @@ static LIMITS: Limits = Limits {
     nesting: 1,
     operations: 3,
     tables: 2,
-    ages: 9223372036854775807,
-    journal: 1024,
+    ..Limits::STANDARD
 };
 
 /// A session joins, begins, and commits.

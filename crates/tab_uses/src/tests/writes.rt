@@ -18,8 +18,7 @@ static LIMITS: Limits = Limits {
     nesting: 4,
     operations: 100,
     tables: 4,
-    ages: 9223372036854775807,
-    journal: 1024,
+    ..Limits::STANDARD
 };
 
 /// Records, how often each is asked at most, and how that ends. There is a table t and no table u, and an older

@@ -1,12 +1,16 @@
 -- What is released is said by what the session held others up by before the step and after it.
-use Rattle.std.proofs.Common.{◌≡◌, false, ◌&&◌, refl, ap, sym, ◌∙◌, subst}
-use Rattle.std.specs.Prelude.{Ok}
+use Rattle.std.proofs.Common.{◌≡◌, Bool, false, ◌&&◌, refl, ap, sym, ◌∙◌, subst}
+use Rattle.std.specs.Prelude.{Ok, nat_lt}
+use Rattle.tab_model.specs.declared.data.Reply.{Reply}
 use Rattle.tab_model.specs.State.{State}
 use Rattle.tab_model.specs.Standing.{may_enter}
 use Rattle.tab_journal.specs.Journals.{is_full}
+use Rattle.tab_book.specs.declared.step.Transition.{Transition}
 use Rattle.tab_book.specs.declared.steps.Holdup.{Holdup}
+use Rattle.tab_book.specs.declared.steps.Standing.{Standing}
 use Rattle.tab_book.specs.Running.{Running}
 use Rattle.tab_book.specs.Steps.{ask_of, has_to_fold, KeepsPosts}
+use Rattle.tab_book.specs.Transitions.{counted_levels, ended_by, is_leave, is_restart}
 use Rattle.tab_book.proofs.Keeping.{HasMadeRoom, room_made, room_there, steps_to, nothing_entered}
 use Rattle.tab_book.proofs.Releasing.{says_releases}
 use Rattle.tab_book.proofs.book.Book.answered.Goals as goal
@@ -36,4 +40,17 @@ returns g c =
       posts = subst (λ (σ : State). KeepsPosts σ c.make.new.self.state) (ap (λ (b : Running). b.state) made.3) c.make.ensures.posts;
       releases = says_releases (λ (s : Holdup). s.open) (λ (s : Holdup). s.waits) c.holdup-before.result old.state c.make.new.self.state done.step.over _ _ _ _ done.step.entry c.lets_go-releases.result c.retries-retries.result
           c.holdup-before.ensures c.retries-retries.ensures done.step.core c.lets_go-releases.ensures.ended c.lets_go-releases.ensures.dropped c.lets_go-releases.ensures.restarted c.reply.ensures;
+      transaction =
+          c.transition-transaction.ensures
+          ∙ ap (λ (s : Standing). after s c.ends_session-leaves.result c.reply.result.now) c.standing-stood.ensures
+          ∙ ap (λ l. after (stood old.state) l c.reply.result.now) c.ends_session-leaves.ensures
+          ∙ ap (after (stood old.state) (is_leave a)) c.reply.ensures;
     }
+  where
+    stood : State → Standing
+    stood σ = record { levels = counted_levels σ c.args.session; commits = σ.commits }
+
+    after : Standing → Bool → Reply → Transition
+    after s l r =
+        let μ = c.make.new.self.state in
+        record { before = s.levels; after = counted_levels μ c.args.session; ended = ended_by s.levels (counted_levels μ c.args.session) (nat_lt s.commits μ.commits) l (is_restart r) }

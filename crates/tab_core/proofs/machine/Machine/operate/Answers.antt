@@ -1,6 +1,6 @@
 use Rattle.std.proofs.Common.{◌++◌, ◌∷◌, [], refl, sym, ap, ◌∙◌, arith, set}
 use Rattle.tab_model.specs.Outcome.{step_without_entry}
-use Rattle.tab_waitdie.specs.declared.ages.Answer.TheVariants.{Granted, Wait, Die}
+use Rattle.tab_waitdie.specs.declared.ages.LockDecision.TheVariants.{Granted, Wait, Die}
 use Rattle.tab_core.specs.declared.queue.Request as request
 use Rattle.tab_core.proofs.Keeping as keep
 use Rattle.tab_core.proofs.Keeping.{parts, the_session, with_transaction}

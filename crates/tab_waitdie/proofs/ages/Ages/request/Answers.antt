@@ -4,7 +4,7 @@ use Rattle.std.specs.List.{list_any}
 use Rattle.tab_model.specs.Ages.{Ages, Owned, Rises, decide, opposes}
 use Rattle.tab_locks.specs.Placed.{in_the_way, conflict_in, after_asked, GivesBack}
 use Rattle.tab_locks.specs.Plain.{lock_of}
-use Rattle.tab_waitdie.specs.declared.ages.Answer.TheVariants.{Granted}
+use Rattle.tab_waitdie.specs.declared.ages.LockDecision.TheVariants.{Granted}
 use Rattle.tab_waitdie.specs.declared.waiting.Waiting.{Waiting}
 use Rattle.tab_waitdie.specs.Queue.{owned, queued, ages_of}
 use Rattle.tab_waitdie.specs.Decisions.{ages, answer_of}

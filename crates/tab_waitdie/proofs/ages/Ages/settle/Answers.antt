@@ -1,7 +1,7 @@
 use Rattle.std.proofs.Common.{sym, ap, ◌∙◌, subst, List}
 use Rattle.tab_model.specs.Ages.{Owned, Rises, decide}
 use Rattle.tab_locks.specs.Plain.{lock_of}
-use Rattle.tab_waitdie.specs.declared.ages.Answer.TheVariants.{Granted, Wait}
+use Rattle.tab_waitdie.specs.declared.ages.LockDecision.TheVariants.{Granted, Wait}
 use Rattle.tab_waitdie.specs.Queue.{ages_of, queued}
 use Rattle.tab_waitdie.specs.Decisions.{ages, answer_of}
 use Rattle.tab_waitdie.proofs.Places.{queued_more}
