@@ -45,7 +45,7 @@ impl<R: Threads + Clock> Held<R> {
         }
     }
 
-    /// Whether session 2 was answered while session 1's call was held.
+    /// Whether session 2 was answered while session 1's call waited.
     fn is_passed(&self) -> bool {
         self.answered.load(Ordering::SeqCst) && !self.gave_up.load(Ordering::SeqCst)
     }
