@@ -17,12 +17,9 @@ import pytest
 
 from tests.lib.checks import ATOMIC, CREATE, END, HERE_OK, MARK, OK, QUIET, event, holds, script, side_by_side, waits, watch, write
 from tests.lib.servers import Server
-from tests.lib.standin import IN_TURN
 from tests.lib.wire import Connection, frame
 
 served = pytest.mark.served
-# A reply is missing after so many seconds, if a server does not answer at all.
-MISSING = 3
 
 
 # A commit that writes the key of its number, which is its age too, as it is sent.
@@ -130,17 +127,6 @@ def test_woken(clients: List[Connection], end: Any, reply: Any, found: Any) -> N
         script((younger, end, reply))
     assert older.receive() == ("reply", [("t", 1, found)]), "the one that waits"
     script((older, "commit", ("atomic", 3 if end == "commit" else 2)))
-
-
-@pytest.mark.wrong
-@pytest.mark.parametrize("wrong", IN_TURN, ids=[wrong.__name__ for wrong in IN_TURN])
-def test_calls_in_turn_are_found(serve: Callable[..., Server], wrong: Any) -> None:
-    """If connections or calls are served one after another, a reply is missing."""
-    port = wrong(serve("--connections", "3").place).listener.getsockname()[1]
-    older, younger = Connection(port), Connection(port)
-    younger.socket.settimeout(MISSING)
-    with pytest.raises(TimeoutError):
-        test_woken([older, younger], "commit", ("atomic", 2), 2)
 
 
 @served(3)
