@@ -12,18 +12,14 @@ from typing import Any, Callable, List, Type
 
 import pytest
 
-from tests import test_server
 from tests.lib.judging import Undecided
 from tests.lib.rounds import Rounds
-from tests.lib.standin import IN_TURN, WRONG, DropsAnEvent, Wrong
-from tests.lib.wire import Connection
+from tests.lib.standin import WRONG, DropsAnEvent, Wrong
 
 TOP = os.path.dirname(os.path.dirname(os.path.abspath(__file__)))
 ROUND, TRIES = 4.0, 3
 # Of a wrong server the rounds are longer and longer: if the machine does much else, little happens in one.
 ROUNDS = [1.2, 4.0, 8.0]
-# A reply is missing after so many seconds, if a server does not answer at all.
-MISSING = 3
 
 
 @pytest.fixture
@@ -83,14 +79,3 @@ def test_a_wrong_server_is_found(rounds: Rounds, wrong: Type[Wrong]) -> None:
 def test_a_server_between_is_not_found(rounds: Rounds) -> None:
     """One that changes nothing."""
     assert not found(rounds, Wrong, ROUNDS[:1])
-
-
-@pytest.mark.wrong
-@pytest.mark.parametrize("wrong", IN_TURN, ids=[wrong.__name__ for wrong in IN_TURN])
-def test_calls_in_turn_are_found(serve: Callable[..., Any], wrong: Type[Wrong]) -> None:
-    """If connections or calls are served one after another, a reply is missing."""
-    port = wrong(serve("--connections", "3").place).listener.getsockname()[1]
-    older, younger = Connection(port), Connection(port)
-    younger.socket.settimeout(MISSING)
-    with pytest.raises(TimeoutError):
-        test_server.test_woken([older, younger], "commit", ("atomic", 2), 2)

@@ -1,4 +1,4 @@
-"""Wrong servers for test_history.py: each is a proxy between the clients and a right server, and breaks one rule.
+"""Wrong servers for test_history.py and test_in_turn.py: each is a proxy between the clients and a right server, and breaks one rule.
 
 A wrong server sees each request before the server does, and each frame before its client does, and decides what is passed on. So it
 can lose a lock, by a read outside of the client's transaction, and drop, double or swap frames.
