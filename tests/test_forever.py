@@ -4,6 +4,7 @@ Each case has a server of its own: one at a port, and if the two kinds of socket
 """
 
 import random
+import re
 import signal
 import time
 from typing import Any, Iterator, Tuple
@@ -205,6 +206,21 @@ def test_a_log(server: Server) -> None:
     assert server.log() == "tabd: session 2 has ended\n", "an end"
     reader.close()
     assert server.log() == "tabd: session 1 has ended\n", "another"
+    server.is_stopped()
+
+
+@seats(2, "--slow", "1")
+@at_both
+def test_slow_transactions(server: Server) -> None:
+    """A transaction that was open for a second has a line after its end, whether it is committed or its client goes; a shorter one has none."""
+    first, second = server.connect(), server.connect()
+    script((first, CREATE, ATOMIC), (first, "begin", ("tid", 1)), (second, "begin", ("tid", 2)), (second, "commit", ("atomic", 1)))
+    script((second, ("transaction", [write(1, "a")], 0), ("atomic", [OK])), (second, "begin", ("tid", 4)))
+    time.sleep(1.2)
+    script((first, "commit", ("atomic", 3)))
+    assert re.fullmatch(r"tabd: session 1 had a transaction open for \d+ s\n", server.log()), "a commit"
+    second.close()
+    assert re.fullmatch(r"tabd: session 2 had a transaction open for \d+ s\n", server.log()), "an end"
     server.is_stopped()
 
 

@@ -5,7 +5,7 @@ use std::test::Fail;
 use tab_locks::{Conflict, LockTable};
 use tab_model::{Lock, Mode, What};
 use tab_term::{Atom, Term};
-use tab_waitdie::{Ages, Answer, Retried};
+use tab_waitdie::{Ages, LockDecision, Retried};
 
 /// A table's name, a key or all, a mode.
 type Asked = (&'static str, Option<i128>, Mode);
@@ -167,7 +167,7 @@ fn locks_are_held_and_gone(rt: HostRuntime) -> Result<(), Fail> {
 }
 
 enum Call {
-    Request(u64, Asked, Answer),
+    Request(u64, Asked, LockDecision),
     Retry(u64, Retried),
     Forget(u64),
     /// A lock of this table is held or awaited.
@@ -175,16 +175,16 @@ enum Call {
 }
 
 static CALLS: [Call; 13] = [
-    Call::Request(2, ("t", Some(5), Mode::Read), Answer::Granted),
-    Call::Request(1, ("t", Some(5), Mode::Write), Answer::Wait),
-    Call::Request(3, ("t", Some(6), Mode::Read), Answer::Granted),
-    Call::Request(3, ("t", Some(5), Mode::Read), Answer::Die),
-    Call::Request(2, ("t", Some(5), Mode::Read), Answer::Granted),
+    Call::Request(2, ("t", Some(5), Mode::Read), LockDecision::Granted),
+    Call::Request(1, ("t", Some(5), Mode::Write), LockDecision::Wait),
+    Call::Request(3, ("t", Some(6), Mode::Read), LockDecision::Granted),
+    Call::Request(3, ("t", Some(5), Mode::Read), LockDecision::Die),
+    Call::Request(2, ("t", Some(5), Mode::Read), LockDecision::Granted),
     Call::Retry(1, Retried::Wait),
     Call::Forget(2),
     Call::Retry(1, Retried::Granted),
-    Call::Request(3, ("t", None, Mode::Write), Answer::Die),
-    Call::Request(1, ("t", None, Mode::Write), Answer::Wait),
+    Call::Request(3, ("t", None, Mode::Write), LockDecision::Die),
+    Call::Request(1, ("t", None, Mode::Write), LockDecision::Wait),
     Call::Forget(3),
     Call::Busy("t"),
     Call::Retry(1, Retried::Granted),

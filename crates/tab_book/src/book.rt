@@ -3,6 +3,7 @@
 ghost use Rattle.std.specs.Prelude.{◌≡◌, ◌≤◌, ◌+◌, [], IsTrue, IfOk, IfErr, OnOk, OnErr, count_by, is_some};
 ghost use Rattle.tab_model.specs.History.{empty as empty_base};
 ghost use Rattle.tab_model.specs.State.{new as new_state, level_in, IsSound};
+ghost use Rattle.tab_core.specs.Ready.{AreReady};
 ghost use Rattle.tab_post.specs.Ends.{as_outbox, mailbox_of, received};
 ghost use Rattle.tab_book.specs.Running.{IsRunning};
 ghost use Rattle.tab_book.specs.Steps.{Joins, Refuses, has_free_seat as has_free_seat_of, with_new_session, KeepsPosts};
@@ -157,7 +158,9 @@ impl<H: Host> Book<H> {
     }
 
     /// The sessions that wait and would be granted their lock now, or rest and may go on.
-    pub(crate) fn ready(&self) -> ArrayVec<u32, SESSIONS> {
+    pub(crate) fn ready(&self) -> ArrayVec<u32, SESSIONS>
+        ensures { AreReady self.now.state result.items }
+    {
         self.core.ready()
     }
 

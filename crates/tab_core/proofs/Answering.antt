@@ -225,6 +225,13 @@ join_exit m n b k stranger new room ss is = (e, kept_step m joined n (Join b) re
     count_last [] = refl
     count_last (x ∷ xs) = ap (λ c. opens x.transaction + c) (count_last xs)
 
+    below : (a b : ℕ) → nat_lt a b ≡ true → a < b
+    below a b h = grind (arith, nat_tests)
+
+    one_longer : (xs : List Subscriber) → length (xs ++ subs.fresh n b ∷ []) ≡ length xs + 1
+    one_longer [] = refl
+    one_longer (x ∷ xs) = ap suc (one_longer xs) ∙ omega arith
+
     agrees : Agree joined
     agrees = record {
       held = λ p. k.agree.held p ∙ ap (list_any p) (sym (ap locks_held_in (ap (map session_of) is ∙ pushed m.sessions) ∙ held_pushed n b (map session_of m.sessions)));
@@ -234,6 +241,7 @@ join_exit m n b k stranger new room ss is = (e, kept_step m joined n (Join b) re
       counted = let c : count_open ss ≡ count_open m.sessions = ap count_open is ∙ count_last m.sessions in let d = k.agree.counted in omega (arith, c, d);
       word = k.agree.word;
       sessions = k.agree.sessions;
+      room = let l : length ss ≡ length m.sessions + 1 = ap length is ∙ one_longer m.sessions in let lt = below (length m.sessions) m.limits.sessions room in let most = k.agree.sessions in omega (arith, l, lt, most);
     }
 
 -- ---- schema commands

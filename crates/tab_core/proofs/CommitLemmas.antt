@@ -1,9 +1,10 @@
 -- An outermost commit and a schema command before anything is put: the tables change, and no other session does.
-use Rattle.std.proofs.Common.{◌≡◌, ◌≢◌, ℕ, ◌+◌, ◌<◌, ◌≤◌, List, [], ◌∷◌, false, ◌||◌, refl, sym, ap, ◌∙◌, subst, arith, Option, Some, None, set}
+use Rattle.std.proofs.Common.{◌≡◌, ◌≢◌, ℕ, ◌+◌, ◌<◌, ◌≤◌, List, [], ◌∷◌, false, ◌||◌, refl, sym, ap, ◌∙◌, subst, arith, length, Option, Some, None, set}
 use Rattle.std.specs.Prelude.{map, option_map}
 use Rattle.std.specs.List.{list_any}
 use Rattle.std.specs.Str.{bytes_eq}
 use Rattle.std.proofs.lemmas.Bool.{or_parts}
+use Rattle.std.proofs.lemmas.List.{length-set}
 use Rattle.std.proofs.lemmas.List.Folds.{list_any-append}
 use Rattle.tab_locks.specs.Members.{SameMembers}
 use Rattle.tab_model.specs.declared.data.Schema.{Schema}
@@ -74,6 +75,7 @@ module _ (m : Parts) (n i : ℕ) (k : IsKept m) (there : IsHeldAt m.sessions n i
         (let c = keep.counts' m n i k there (ended s) refl in let d = k.agree.counted in let e : opens s.transaction ≡ 1 = ap opens open_t in omega (arith, c, d, e, begun, committed));
     word = subst (λ (l : Rattle.tab_model.specs.declared.data.Limits.Limits). l.ages < 18446744073709551616) (sym limits) k.agree.word;
     sessions = subst (λ (l : Rattle.tab_model.specs.declared.data.Limits.Limits). l.sessions ≤ 64) (sym limits) k.agree.sessions;
+    room = subst (λ ss. length ss ≤ 64) (sym sessions) (subst (λ l. l ≤ 64) (sym (length-set m.sessions i (ended s))) k.agree.room);
   }
     where
       none_open : (v : kept.Transaction) → None ≡ Some v → Fits v.store (mid_of σ (transaction_of t)).now
@@ -94,6 +96,7 @@ schema_agrees m m' c k idle catalog sessions ages queue limits begun commits = r
   counted = subst (λ v. m'.commits + count_open v ≤ m'.begun) (sym sessions) (let d = k.agree.counted in omega (arith, d, begun, commits));
   word = subst (λ (l : Rattle.tab_model.specs.declared.data.Limits.Limits). l.ages < 18446744073709551616) (sym limits) k.agree.word;
   sessions = subst (λ (l : Rattle.tab_model.specs.declared.data.Limits.Limits). l.sessions ≤ 64) (sym limits) k.agree.sessions;
+  room = subst (λ ss. length ss ≤ 64) (sym sessions) k.agree.room;
 }
   where
     subst_held : SameMembers (locks_held_in (map session_of m'.sessions)) m'.ages.held

@@ -3,6 +3,7 @@ use Rattle.std.proofs.Common.{◌≡◌, ◌≢◌, ℕ, zero, suc, take, ◌+�
 use Rattle.std.specs.Prelude.{IfSome, OnErr, Result, Ok, Err, ◌==◌, if◌then◌else◌, is_some, map, option_map}
 use Rattle.std.specs.List.{list_any, filter}
 use Rattle.std.proofs.lemmas.Bool.{or_parts}
+use Rattle.std.proofs.lemmas.List.{length-set}
 use Rattle.std.specs.Global.{Vec}
 use Rattle.tab_model.specs.Ages as Plain
 use Rattle.tab_locks.specs.Members.{SameMembers}
@@ -272,6 +273,7 @@ module _ (m : Parts) (n i : ℕ) (k : IsKept m) (there : IsHeldAt m.sessions n i
       counted = subst (λ ss. m'.commits + count_open ss ≤ m'.begun) (sym sessions) counted;
       word = subst (λ (l : Rattle.tab_model.specs.declared.data.Limits.Limits). l.ages < 18446744073709551616) (sym limits) k.agree.word;
       sessions = subst (λ (l : Rattle.tab_model.specs.declared.data.Limits.Limits). l.sessions ≤ 64) (sym limits) k.agree.sessions;
+      room = subst (λ ss. length ss ≤ 64) (sym sessions) (subst (λ l. l ≤ 64) (sym (length-set m.sessions i s')) k.agree.room);
     }
 
 -- ---- who watches has no part in it
@@ -305,6 +307,12 @@ keys_at (x ∷ xs) (y ∷ ys) k n = ap (λ a. transaction_in (if a == n then Som
     by true ih = sym k.1
     by false ih = ih
 
+keys_length : (xs ys : List Subscriber) → SameKeys xs ys → length ys ≡ length xs
+keys_length [] [] k = refl
+keys_length [] (y ∷ ys) k = absurd k
+keys_length (x ∷ xs) [] k = absurd k
+keys_length (x ∷ xs) (y ∷ ys) k = ap suc (keys_length xs ys k.2)
+
 pub watched_agrees : (m : Parts) (ss : List Subscriber) → SameKeys m.sessions ss → Agree m → Agree (record m { sessions = ss })
 watched_agrees m ss k a = record {
   held = subst (λ xs. SameMembers xs m.ages.held) (sym (keys_held m.sessions ss k)) a.held;
@@ -314,6 +322,7 @@ watched_agrees m ss k a = record {
   counted = subst (λ c. m.commits + c ≤ m.begun) (sym (keys_count m.sessions ss k)) a.counted;
   word = a.word;
   sessions = a.sessions;
+  room = subst (λ l. l ≤ 64) (sym (keys_length m.sessions ss k)) a.room;
 }
 
 -- a step that changes who watches what, and what the posts have, after the machine's part of it

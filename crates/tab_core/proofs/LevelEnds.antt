@@ -2,6 +2,7 @@
 use Rattle.std.proofs.Common.{zero, ◌||◌, inl, inr, ◌≡◌, ◌≢◌, ℕ, suc, ◌+◌, ◌<◌, ◌≤◌, List, [], ◌∷◌, ◌++◌, Bool, true, false, ◌&&◌, not, refl, sym, ap, ◌∙◌, subst, arith, length, Option, Some, None, get_or, set}
 use Rattle.std.specs.Prelude.{◌==◌, ◌⊎◌, nat_le, nat_lt, if◌then◌else◌, is_some, map, option_map}
 use Rattle.std.specs.List.{list_any, filter}
+use Rattle.std.proofs.lemmas.List.Sums.{count_by-le-length, length-filter}
 use Rattle.tab_term.specs.declared.term.Term.{Term}
 use Rattle.tab_locks.specs.Members.{SameMembers}
 use Rattle.tab_model.specs.declared.data.Command.TheVariants as command
@@ -331,6 +332,7 @@ leave_exit m n i k there m' catalog limits begun commits greatest sessions queue
       counted = subst (λ ss. m'.commits + count_open ss ≤ m'.begun) (sym sessions_here) (let d = k.agree.counted in let f = counts_fewer n m.sessions in omega (arith, d, f, begun, commits));
       word = subst (λ (l : Rattle.tab_model.specs.declared.data.Limits.Limits). l.ages < 18446744073709551616) (sym limits) k.agree.word;
       sessions = subst (λ (l : Rattle.tab_model.specs.declared.data.Limits.Limits). l.sessions ≤ 64) (sym limits) k.agree.sessions;
+      room = subst (λ ss. length ss ≤ 64) (sym sessions_here) (let f = count_by-le-length (λ x. not (x.number == n)) m.sessions in let g = length-filter (λ x. not (x.number == n)) m.sessions in let r = k.agree.room in omega (arith, f, g, r));
     }
       where
         still : (q : ℕ) (t : kept.Transaction) → transaction_in (at (filter (λ x. not (x.number == n)) m.sessions) q) ≡ Some t → transaction_in (at m.sessions q) ≡ Some t

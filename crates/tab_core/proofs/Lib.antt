@@ -19,3 +19,4 @@ pub mod TellsLemmas
 pub mod SessionsLemmas
 pub mod MarksLemmas
 pub mod Dumps
+pub mod ReadyLemmas

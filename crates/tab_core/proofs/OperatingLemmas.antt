@@ -268,7 +268,7 @@ module _ (m : Parts) (n i : ℕ) (k : IsKept m) (there : IsHeldAt m.sessions n i
     abbrev r : IsRequest q
     r = requested q rq
 
-    may : (b : Bool) → can_retry m.ages (q.age, needs q.operation) ≡ b → can_retry (ages_of τ) (r.transaction.age, needs q.operation) ≡ b
+    pub may : (b : Bool) → can_retry m.ages (q.age, needs q.operation) ≡ b → can_retry (ages_of τ) (r.transaction.age, needs q.operation) ≡ b
     may b h =
         sym (ap (λ (x : List Owned). let g : Ages = record { held = m.ages.held; queue = x } in can_retry g (r.transaction.age, needs q.operation)) k.agree.queue ∙ retries (locks_held_in (map session_of m.sessions)) m.ages.held (locks_queued_in (map queued_of m.queue.items)) (r.transaction.age, needs q.operation) k.agree.held)
         ∙ ap (λ a. can_retry m.ages (a, needs q.operation)) r.age ∙ h

@@ -1,5 +1,5 @@
 -- What holds of a machine's parts, and of the sessions that it is lent, before and after each step.
-use Rattle.std.specs.Prelude.{◌≡◌, ◌≤◌, ◌<◌, ℕ, ◌+◌, List, [], ◌∷◌, Option, None, Some, map}
+use Rattle.std.specs.Prelude.{◌≡◌, ◌≤◌, ◌<◌, ℕ, ◌+◌, List, [], ◌∷◌, Option, None, Some, map, length}
 use Rattle.tab_locks.specs.Members.{SameMembers}
 use Rattle.tab_model.specs.Ages.{Rises}
 use Rattle.tab_model.specs.State.{locks_held_in, locks_queued_in, ages_of, transaction_at, OwnedBy, IsSound}
@@ -30,6 +30,7 @@ pub record Agree (m : Parts) : Type 0 where
   pub counted : m.commits + count_open m.sessions ≤ m.begun
   pub word : m.limits.ages < 18446744073709551616
   pub sessions : m.limits.sessions ≤ 64
+  pub room : length m.sessions ≤ 64
 
 -- what holds of a machine and its sessions
 pub record IsKept (m : Parts) : Type 0 where

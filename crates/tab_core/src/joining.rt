@@ -1,18 +1,20 @@
 //! Sessions join and leave.
 
-ghost use Rattle.std.specs.Prelude.{◌≡◌, ◌^◌, ◌-◌, ◌&&◌, [], IsFalse, IfOk, IsOk, IsTrue, OnErr, length, min, nat_lt};
+ghost use Rattle.std.specs.Prelude.{◌≡◌, ◌<◌, ◌^◌, ◌-◌, ◌&&◌, [], IsFalse, IfOk, IsOk, IsTrue, OnErr, length, min, nat_lt};
 ghost use Rattle.tab_model.specs.declared.ask.Ask.TheVariants.{Join, Leave};
 ghost use Rattle.tab_model.specs.Standing.{levels_of};
 ghost use Rattle.tab_model.specs.State.{is_waiting};
 ghost use Rattle.tab_subs.specs.Subscribers.{IsHeldAt};
 ghost use Rattle.tab_core.specs.Parts.{parts_of, state_with};
 ghost use Rattle.tab_core.specs.Kept.{IsKept};
+ghost use Rattle.tab_core.specs.Ready.{AreReady, IsReadyAt};
 ghost use Rattle.tab_core.specs.Steps.{StepsTo, is_told_for_none};
 
-use crate::machine::Machine;
+use crate::machine::{Machine, SESSIONS};
 use crate::operating::end_if;
 use crate::queue::find;
 use crate::step::Stepped;
+use arrayvec::ArrayVec;
 use std::alloc::AllocError;
 use tab_model::{Limit, Reply};
 use tab_outbox::Post;
@@ -30,6 +32,32 @@ impl<P: Post + Drop> Machine<P> {
         ensures { IsFalse result → self.now.queue.items ≡ [] }
     {
         !self.queue.is_empty() || self.ages.anyone_rests()
+    }
+
+    /// The sessions that wait and would be granted their lock now, or rest and may go on.
+    pub(crate) fn ready(&self) -> ArrayVec<u32, SESSIONS>
+        requires kept { IsKept (parts_of self.now) }
+        ensures { AreReady (state_with self.now) result.items }
+    {
+        let mut ready = ArrayVec::new();
+        for place in 0..self.sessions.len() {
+            if !self.is_ready(place) {
+                continue;
+            }
+            ready.push(self.sessions.number(place));
+        }
+        ready
+    }
+
+    /// Whether the session at the place waits and would be granted its lock now, or rests and may go on.
+    fn is_ready(&self, place: usize) -> bool
+        requires { place < length self.now.sessions }
+        ensures { IsReadyAt (parts_of self.now) place result }
+    {
+        match self.sessions.transaction(place) {
+            Some(transaction) => self.ages.is_ready(transaction.age),
+            None => false,
+        }
     }
 
     /// How many levels the session has open, up to the greatest 64 bit number.

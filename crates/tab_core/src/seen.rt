@@ -4,6 +4,7 @@ ghost use Rattle.std.specs.Prelude.{◌≡◌, ◌^◌, ◌-◌, ◌&&◌, [], N
 ghost use Rattle.tab_model.specs.Standing.{is_joined, levels_of};
 ghost use Rattle.tab_model.specs.State.{is_waiting, level_in, session_at};
 ghost use Rattle.tab_outbox.specs.Mailboxes.{Meets};
+ghost use Rattle.tab_core.specs.Ready.{AreReady};
 
 use crate::machine::SESSIONS;
 use crate::{Core, Rest};
@@ -39,18 +40,10 @@ impl<P: Post + Drop> Core<P> {
     }
 
     /// The sessions that wait and would be granted their lock now, or rest and may go on.
-    pub fn ready(&self) -> ArrayVec<u32, SESSIONS> {
-        let sessions = &self.machine.sessions;
-        let mut ready = ArrayVec::new();
-        for place in 0..sessions.len() {
-            if let Some(transaction) = sessions.transaction(place) {
-                if self.machine.ages.is_ready(transaction.age) {
-                    // There is a place for each session.
-                    let _full = ready.try_push(sessions.number(place));
-                }
-            }
-        }
-        ready
+    pub fn ready(&self) -> ArrayVec<u32, SESSIONS>
+        ensures { AreReady self.now result.items }
+    {
+        self.machine.ready()
     }
 
     /// Whether some session waits or rests.

@@ -137,9 +137,13 @@ impl Meters {
         let _kept = self.open.lock(rt).try_push(Open { session, since });
     }
 
-    /// The session's transaction is open no more.
-    pub fn end<R: Wait>(&self, rt: &R, session: u32) {
-        self.open.lock(rt).retain(|open| open.session != session);
+    /// The session's transaction is open no more. Returns how many seconds it was open; 0 if the clock can't be read.
+    pub fn end<R: Wait + Clock>(&self, rt: &R, session: u32) -> u64 {
+        let mut open = self.open.lock(rt);
+        let ended = open.iter().find(|open| open.session == session).copied();
+        open.retain(|open| open.session != session);
+        drop(open);
+        seconds(rt, ended)
     }
 
     /// How many transactions are open.
@@ -150,19 +154,24 @@ impl Meters {
     /// How many seconds the oldest of them is open; 0 where there is none.
     pub fn oldest<R: Wait + Clock>(&self, rt: &R) -> u64 {
         let first = self.open.lock(rt).first().copied();
-        let Some(
-            Open {
-                since: Some(since),
-                ..
-            },
-        ) = first
-        else {
-            return 0;
-        };
-        match since.elapsed(rt) {
-            Ok(age) => age.as_secs(),
-            Err(_) => 0,
-        }
+        seconds(rt, first)
+    }
+}
+
+/// How many seconds it is open.
+fn seconds<R: Clock>(rt: &R, open: Option<Open>) -> u64 {
+    let Some(
+        Open {
+            since: Some(since),
+            ..
+        },
+    ) = open
+    else {
+        return 0;
+    };
+    match since.elapsed(rt) {
+        Ok(age) => age.as_secs(),
+        Err(_) => 0,
     }
 }
 

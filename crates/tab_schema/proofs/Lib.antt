@@ -1,2 +1,3 @@
 pub mod NamesLemmas
 pub mod OptionsLemmas
+pub mod PositionsLemmas

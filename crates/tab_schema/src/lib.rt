@@ -7,6 +7,7 @@ mod attributes;
 mod definition;
 mod fault;
 mod options;
+mod positions;
 
 pub use definition::{fits, has_index, position, with_positions};
 pub use fault::DefFault;

@@ -9,8 +9,9 @@ ghost use Rattle.tab_model.specs.Definitions.{parse_options as parsed, Good, Bad
 ghost use Rattle.tab_schema.specs.Options.{Blames, first_value, option_term};
 
 use crate::attributes::attributes_in;
-use crate::definition::{add_number, position};
+use crate::definition::add_number;
 use crate::fault::DefFault;
+use crate::positions::positions;
 use std::alloc::{AllocError, Global};
 use tab_model::{Atoms, Kind, Numbers, TableDef};
 use tab_term::{Atom, Term, Terms};
@@ -155,11 +156,12 @@ fn indexed(alloc: Global, def: TableDef, entries: &[Term]) -> Result<TableDef, D
     ensures bad { IfErr result
         (Blames (λ what. with_index_option def (list_of (terms entries.now)) ≡ Bad what)) }
 {
+    let positions = positions(alloc, &def)?;
     let mut indexes = Vec::new(alloc);
     let mut fault = None;
     for n in (0..entries.len()).rev() {
-        match position(&def, &entries[n]) {
-            Some(position) => add_number(&mut indexes, position as u64)?,
+        match positions.get(&entries[n]) {
+            Some(position) => add_number(&mut indexes, *position)?,
             None => fault = Some(&entries[n]),
         }
     }

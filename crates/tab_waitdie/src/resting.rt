@@ -1,6 +1,7 @@
 //! Who died for a lock, and rests until it is free.
 
-ghost use Rattle.std.specs.Prelude.{◌≡◌};
+ghost use Rattle.std.specs.Prelude.{◌≡◌, IfSome};
+ghost use Rattle.tab_model.specs.Ages.{can_retry, request_of};
 
 use crate::ages::Ages;
 use crate::waiting::{Waiting, any_opposing, conflicts_in, drop_requests};
@@ -42,7 +43,9 @@ impl Ages {
     }
 
     /// Whether a request of this age that is queued would be granted now, or who has this age rests and may go on.
-    pub fn is_ready(&self, age: u64) -> bool {
+    pub fn is_ready(&self, age: u64) -> bool
+        ensures { IfSome (request_of age self.now.queue) (λ r. result ≡ can_retry self.now r) }
+    {
         if self.waits(age) {
             return self.may_go(age);
         }

@@ -54,6 +54,7 @@ pub record IsServiceOf (rows : List Row) (s : Service) : Type 0 where
   pub idle : MayBeNumberOf (codes "idle") 1 86400 rows s.idle
   pub log : IsFlagOf (codes "log") rows (is_full s.log)
   pub metrics : MayBeNumberOf (codes "metrics") 0 65535 rows s.metrics
+  pub slow : MayBeNumberOf (codes "slow") 1 86400 rows s.slow
   pub aborts : IsFlagOf (codes "abort-waits") rows s.aborts
 
 -- where clients are to connect: at the port in its text, or at the socket file whose path is the text as it was written

@@ -115,6 +115,15 @@ fn log<'a>(alloc: Global) -> Arg<'a>
     flag(alloc, "log").help("Each session's start and end has a line on standard error")
 }
 
+fn slow<'a>(alloc: Global) -> Arg<'a>
+    ensures rule { rule_of result ≡ number_rule (codes "slow") 1 86400 }
+    ensures own { IsFalse result.global }
+{
+    number_of(alloc, "slow", "SECONDS", 1, 86_400).help(
+        "A transaction that was open for so long has a line on standard error after its end, 1 to 86400",
+    )
+}
+
 fn abort_waits<'a>(alloc: Global) -> Arg<'a>
     ensures rule { rule_of result ≡ flag_rule (codes "abort-waits") }
     ensures own { IsFalse result.global }
@@ -158,6 +167,7 @@ pub fn serve<'a>(alloc: Global) -> Result<Command<'a>, AllocError>
         .arg(idle(alloc))?
         .arg(log(alloc))?
         .arg(metrics(alloc))?
+        .arg(slow(alloc))?
         .arg(abort_waits(alloc))
 }
 

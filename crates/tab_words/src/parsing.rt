@@ -120,6 +120,7 @@ fn service(matches: &ArgMatches<'_>) -> Service
         idle: idle(matches),
         log: log(matches),
         metrics: metrics(matches),
+        slow: slow(matches),
         aborts: is_given(matches, "abort-waits"),
     }
 }
@@ -164,6 +165,12 @@ fn metrics(matches: &ArgMatches<'_>) -> Option<u16>
     ensures { MayBeNumberOf (codes "metrics") 0 65535 (rows_of (found_of matches.now)) result }
 {
     matches.get_one("metrics")
+}
+
+fn slow(matches: &ArgMatches<'_>) -> Option<u32>
+    ensures { MayBeNumberOf (codes "slow") 1 86400 (rows_of (found_of matches.now)) result }
+{
+    matches.get_one("slow")
 }
 
 fn idle(matches: &ArgMatches<'_>) -> Option<u32>

@@ -45,6 +45,8 @@ pub struct Service {
     pub log: Log,
     /// The port where the counters are asked for; 0 lets the system choose one.
     pub metrics: Option<u16>,
+    /// A transaction that was open for so many seconds has a line.
+    pub slow: Option<u32>,
     /// An abort ends the wait of the operation before it, which is told nothing then.
     pub aborts: bool,
 }

@@ -9,6 +9,14 @@ use tab_metrics::{Holdings, Meters, Paged, page_of};
 use tab_server::{Count, Counts, Gate, Note, Notes};
 use tab_words::Log;
 
+/// What has a line, and what is counted.
+#[derive(Drop)]
+pub struct Told {
+    pub log: Log,
+    pub meters: Option<Meters>,
+    pub slow: Option<u32>,
+}
+
 /// A device for lines, of which each is whole.
 #[derive(Drop)]
 pub struct Lines<R, E> {
@@ -18,13 +26,16 @@ pub struct Lines<R, E> {
     device: Mutex<E>,
     /// Why the server ends.
     reason: Mutex<Option<String>>,
-    /// Where the counters may be asked for.
+    /// Where the counters may be asked for, or transactions are timed.
     meters: Option<Meters>,
+    /// A transaction that was open for so many seconds has a line.
+    slow: Option<u32>,
 }
 
 impl<R: Wait, E: Target> Lines<R, E> {
     /// Writes lines to this device, behind a lock; of the log only what is asked for.
-    pub fn new(rt: R, alloc: Global, log: Log, meters: Option<Meters>, device: E) -> Lines<R, E> {
+    pub fn new(rt: R, alloc: Global, told: Told, device: E) -> Lines<R, E> {
+        let Told { log, meters, slow } = told;
         Lines {
             rt,
             alloc,
@@ -32,6 +43,7 @@ impl<R: Wait, E: Target> Lines<R, E> {
             device: Mutex::new(device),
             reason: Mutex::new(None),
             meters,
+            slow,
         }
     }
 
@@ -61,6 +73,18 @@ impl<R: Wait, E: Target> Lines<R, E> {
         }
     }
 
+    /// Of a transaction that was open for so many seconds, if that is long.
+    fn log_slow(&self, session: u32, seconds: u64) {
+        match self.slow {
+            Some(least) if seconds >= u64::from(least) => {
+                if let Ok(what) = format!(in self.alloc; "had a transaction open for {seconds} s") {
+                    self.put_of(session, &what);
+                }
+            }
+            _ => {}
+        }
+    }
+
     fn log_overflow(&self, session: u32, commit: u64) {
         if let Ok(what) = format!(in self.alloc; "lost its events from commit {commit} on") {
             self.log_of(session, &what);
@@ -83,7 +107,7 @@ impl<R: Wait + Clock, E: Target> Counts for Lines<R, E> {
 
     fn end(&self, session: u32) {
         if let Some(meters) = &self.meters {
-            meters.end(&self.rt, session);
+            self.log_slow(session, meters.end(&self.rt, session));
         }
     }
 }

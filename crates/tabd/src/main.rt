@@ -9,7 +9,7 @@ mod running;
 mod serving;
 mod socket_file;
 
-use lines::Lines;
+use lines::{Lines, Told};
 use running::run;
 use std::marker::Brand;
 use std::process::ExitCode;
@@ -24,11 +24,15 @@ fn main(rt: HostRuntime) -> ExitCode {
     let mut output = Counted::new(rt.stdout());
     let mut errors = Counted::new(rt.stderr());
     let wanted = asked(&rt);
-    let (log, meters) = match &wanted {
-        Ok(Run::Serve(_, service)) => (service.log, meters(service)),
-        _ => (Log::Brief, None),
+    let told = match &wanted {
+        Ok(Run::Serve(_, service)) => told(service),
+        _ => Told {
+            log: Log::Brief,
+            meters: None,
+            slow: None,
+        },
     };
-    let lines = Lines::new(rt, rt.alloc(), log, meters, Counted::new(rt.stderr()));
+    let lines = Lines::new(rt, rt.alloc(), told, Counted::new(rt.stderr()));
     let opened = Opened::new();
     let status = run::<Brand, _, _, _, _, _>(
         &rt,
@@ -43,12 +47,21 @@ fn main(rt: HostRuntime) -> ExitCode {
     status
 }
 
-/// The counters of a server that has a page of them.
+fn told(service: &Service) -> Told {
+    Told {
+        log: service.log,
+        meters: meters(service),
+        slow: service.slow,
+    }
+}
+
+/// The counters of a server that has a page of them, or that times transactions.
 fn meters(service: &Service) -> Option<Meters> {
-    service.metrics.map(|_| {
-        Meters::new(About {
-            version: VERSION,
-            connections: service.sizes.connections,
-        })
-    })
+    if service.metrics.is_none() && service.slow.is_none() {
+        return None;
+    }
+    Some(Meters::new(About {
+        version: VERSION,
+        connections: service.sizes.connections,
+    }))
 }
