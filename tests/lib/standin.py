@@ -1,4 +1,4 @@
-"""Wrong servers for test_history.py: each is a proxy between the clients and a right server, and breaks one rule.
+"""Wrong servers for test_history.py and test_in_turn.py: each is a proxy between the clients and a right server, and breaks one rule.
 
 A wrong server sees each request before the server does, and each frame before its client does, and decides what is passed on. So it
 can lose a lock, by a read outside of the client's transaction, and drop, double or swap frames.
@@ -120,7 +120,10 @@ class Wrong:
                 link = Link(self, client, self.port)
             except OSError:
                 return
-            threading.Thread(target=link.run, daemon=True).start()
+            self.serve(link)
+
+    def serve(self, link: Link) -> None:
+        threading.Thread(target=link.run, daemon=True).start()
 
     def now_and_then(self) -> bool:
         with self.lock:
@@ -468,6 +471,31 @@ class OneAfterAnother(Wrong):
         if link.notes.pop("alone", False):
             self.aside_lock.release()
 
+
+class ServesOneAfterAnother(Wrong):
+    """A connection is served when the one before has ended."""
+
+    def serve(self, link: Link) -> None:
+        link.run()
+
+
+class MakesCallsInTurn(Wrong):
+    """A call is made after the reply to the one before, of all clients: one that waits for a lock delays the others."""
+
+    def __init__(self, port: int) -> None:
+        self.turn = threading.Lock()
+        super().__init__(port)
+
+    def asked(self, link: Any, request: Any) -> Any:
+        self.turn.acquire()
+        return request
+
+    def replied(self, link: Any, request: Any, term: Any) -> Any:
+        self.turn.release()
+        return term
+
+
+IN_TURN = [ServesOneAfterAnother, MakesCallsInTurn]
 
 WRONG = [
     DropsAnEvent, DoublesAnEvent, SwapsEvents, DropsASubscribersEvent, DoublesASubscribersEvent, SwapsASubscribersEvents,
