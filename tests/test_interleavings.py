@@ -14,7 +14,6 @@ from typing import Any, Callable, Dict, Iterator, List, Tuple
 import pytest
 
 from tests.lib.checks import ATOMIC, CREATE, HERE_OK, OK, same, watch, write
-from tests.lib.judging import Undecided
 from tests.lib.refusing import built
 from tests.lib.rounds import Rounds
 from tests.lib.servers import Server
@@ -150,9 +149,5 @@ def test_who_waits_is_woken(serve: Callable[..., Server], library: str, delayed:
 
 
 def test_a_round(serve: Callable[..., Server], tmp_path: Any, delayed: Dict[str, Any], seed: int) -> None:
-    """Judged as one of test_history.py. If no recorder got all events it shows nothing."""
-    try:
-        faults = Rounds(serve, tmp_path, **delayed).faults(seed, ROUND)
-    except Undecided:
-        return
-    assert not faults
+    """Judged as one of test_history.py."""
+    assert not Rounds(serve, tmp_path, **delayed).decided(seed, ROUND)

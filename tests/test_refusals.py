@@ -146,6 +146,7 @@ def faults_of(replay: Any, does: Any, stream: Any, start: int, **wrong: Any) -> 
         except AssertionError as differs:
             faults.append(f"allocation {nth}: {differs}")
     print(ends)
+    assert faults or ends.keys() & {"start", "frame", "asked again"}, "nothing was refused"
     return faults
 
 
