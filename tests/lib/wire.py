@@ -29,11 +29,11 @@ def frames(*terms: Term) -> bytes:
 
 def frames_of(data: bytes) -> Tuple[List[bytes], bytes]:
     """Complete frames, and the bytes after them."""
-    found = []
-    while len(data) >= 4 and len(data) >= (end := 4 + int.from_bytes(data[:4], "big")):
-        found.append(data[:end])
-        data = data[end:]
-    return found, data
+    found, place = [], 0
+    while len(data) >= place + 4 and len(data) >= (end := place + 4 + int.from_bytes(data[place : place + 4], "big")):
+        found.append(data[place:end])
+        place = end
+    return found, data[place:]
 
 
 def term_of(data: bytes) -> Term:
