@@ -97,7 +97,7 @@ def pytest_runtest_makereport(item: pytest.Item, call: Any) -> Iterator[None]:
 
 @pytest.fixture(scope="session")
 def tabd(request: pytest.FixtureRequest) -> str:
-    return os.path.abspath(request.config.getoption("--tabd"))
+    return os.path.abspath(str(request.config.getoption("--tabd")))
 
 
 @pytest.fixture(scope="session")

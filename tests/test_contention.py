@@ -124,16 +124,6 @@ def test_no_overtaking(clients: List[Connection]) -> None:
 
 
 @served(2)
-def test_phantom(clients: List[Connection]) -> None:
-    """A look-up by an index is not joined by a record that was not there."""
-    reader, writer = clients
-    create = ("create_table", "x", [("attributes", ["k", "v"]), ("index", ["v"])])
-    script((reader, create, ATOMIC))
-    opened(reader, writer)
-    script((reader, ("index_read", "x", "q", "v"), []), (writer, ("write", ("x", 9, "q")), "restart"))
-
-
-@served(2)
 @pytest.mark.parametrize("end", [("abort", "why"), "commit"], ids=["an abort", "a commit"])
 def test_an_end_wakes(clients: List[Connection], end: Any) -> None:
     """A session in back-off gets `restart` as soon as the holder's transaction ends, and then goes on."""
@@ -330,7 +320,7 @@ def test_mixed_load(clients: List[Connection]) -> None:
     script((first, CREATE, ATOMIC), (first, one_shot(write(0, 0), write(1, 0), write(2, 0)), ("atomic", [OK] * 3)))
     side_by_side([(load, given) for given in zip(clients, range(len(clients)))])
     told = first.ask(one_shot(("read", "t", 0), ("read", "t", 1), ("read", "t", 2)))[1]
-    assert told[0][0][2] == len(raised), "sum"
+    assert told[0][0][2] == len(raised) > 0, "sum"
     assert told[1][0][2] == told[2][0][2], "both"
     between("the longest", 0, longest[0], LATE)
 

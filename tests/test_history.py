@@ -41,7 +41,7 @@ def test_round(rounds: Rounds, seed: int) -> None:
 
 def before(wrong: Type[Wrong]) -> Callable[[Any], int]:
     """Starts a stand-in of a server; the port of the stand-in."""
-    return lambda port: wrong(port).listener.getsockname()[1]
+    return lambda port: int(wrong(port).listener.getsockname()[1])
 
 
 def found(rounds: Rounds, wrong: Type[Wrong], lengths: List[float]) -> List[str]:

@@ -137,15 +137,19 @@ def test_who_waits_is_woken(serve: Callable[..., Server], library: str, delayed:
     watchers = [server.connect() for _ in range(WATCHERS)]
     for watcher in watchers:
         same("a subscription", watcher.ask(watch()), HERE_OK)
-    chance, late = random.Random(seed), []
+    chance, late, undecided = random.Random(seed), [], 0
     for value in range(TURNS):
         pulse.taken()
         silence = turn(connections[:WAITS], connections[WAITS:], value, chance)
         if silence >= SILENCE and pulse.taken() < LATE:
             late.append((value, round(silence, 3)))
+        elif silence >= SILENCE:
+            undecided += 1
         for watcher in watchers:
             assert all(watcher.event() for _ in range(WAITS))
     assert not late, f"seed {seed}: turns in which a session slept until it looked by itself, and the seconds of silence"
+    if undecided == TURNS:
+        pytest.skip("the machine lets no thread go on in time")
 
 
 def test_a_round(serve: Callable[..., Server], tmp_path: Any, delayed: Dict[str, Any], seed: int) -> None:

@@ -13,6 +13,7 @@ each stream.
 import collections
 import itertools
 import time
+from functools import partial
 from typing import Any, Callable, Counter, List
 
 import pytest
@@ -63,7 +64,7 @@ def library(tmp_path_factory: pytest.TempPathFactory) -> Any:
 @pytest.fixture(scope="session")
 def replay(tabd: str, library: str) -> Any:
     """Starts a replay with some options whose nth allocation is refused."""
-    start = lambda words, nth, *more, **wrong: RefusedReplay(tabd, library, words, nth, *more, **wrong)
+    start = partial(RefusedReplay, tabd, library)
     with start(["replay"], 1) as run:
         run.ask(frame((1, "join")))
         if not run.ended()[0]:

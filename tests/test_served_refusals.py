@@ -14,6 +14,7 @@ import select
 import subprocess
 import sys
 from dataclasses import dataclass
+from functools import partial
 from typing import Any, Callable, Counter, List, Sequence, Tuple, Union
 
 import pytest
@@ -40,7 +41,7 @@ CREATES: List[Any] = [("create_table", name, []) for name in ("t", "u", "w")]
 
 def becomes(connection: Connection, request: Any, wanted: Any) -> None:
     """The reply, in the end: a session needs a moment to leave."""
-    same(f"{request}", soon(lambda: connection.ask(request), lambda reply: reply == wanted), wanted)
+    same(f"{request}", soon(partial(connection.ask, request), lambda reply: reply == wanted), wanted)
 
 
 def is_free(connection: Connection, *tables: str) -> None:
@@ -291,7 +292,7 @@ CASES: List[Union[Case, Watched, Joins]] = [
 def refused(tabd: str, tmp_path_factory: pytest.TempPathFactory) -> Any:
     """Starts a server with some options whose allocations can be refused."""
     library = built("refusing_server", tmp_path_factory.mktemp("refusing"))
-    serve = lambda *words, **options: RefusedServer(tabd, library, *words, **options)
+    serve = partial(RefusedServer, tabd, library)
     with serve("--connections", "1") as server:
         server.refuse(COUNTED)
         server.connect().ask("begin")

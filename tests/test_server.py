@@ -153,7 +153,7 @@ def test_raise(clients: List[Connection], count: int) -> None:
 
     def attempt(connection: Connection) -> bool:
         found = connection.ask(("wread", ("t", 1)))
-        return found != "restart" and connection.ask(write(1, found[0][2] + 1)) == OK
+        return bool(found != "restart" and connection.ask(write(1, found[0][2] + 1)) == OK)
 
     def raise_all(connection: Connection) -> None:
         for turn in range(each):

@@ -3,6 +3,7 @@
 import socket
 import threading
 import time
+from functools import partial
 from typing import Any, Callable, List, Tuple, TypeVar
 
 from tests.lib.wire import PATIENCE, Connection, Term
@@ -50,7 +51,7 @@ def holds(what: str, condition: object) -> None:
         raise AssertionError(what)
 
 
-def soon(find: Callable[[], Found], is_wanted: Callable[[Found], object], patience: float = SOON) -> Found:
+def soon(find: Callable[[], Found], is_wanted: Callable[[Found], Any], patience: float = SOON) -> Found:
     """What is found as soon as it is as wanted, or in the end."""
     end = time.monotonic() + patience
     while not is_wanted(found := find()) and time.monotonic() < end:
@@ -60,7 +61,7 @@ def soon(find: Callable[[], Found], is_wanted: Callable[[Found], object], patien
 
 def at_last(connection: Connection, request: Term) -> Term:
     """The reply, if it was `restart` since a session that broke off has not left yet."""
-    return soon(lambda: connection.ask(request), lambda reply: reply != "restart")
+    return soon(partial(connection.ask, request), lambda reply: reply != "restart")
 
 
 def script(*steps: Tuple[Connection, Term, Term]) -> None:

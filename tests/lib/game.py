@@ -271,7 +271,7 @@ class Watcher(Log):
             self.watched.discard(tab)
         elif reply[1] != "outbox_full":
             self.until("an overflow", lambda: tab not in self.watched)
-        return reply[0] == "ok"
+        return bool(reply[0] == "ok")
 
     def run(self) -> Any:
         while now() < self.game.end:

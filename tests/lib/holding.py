@@ -1,6 +1,7 @@
 """Requests of one client that make a server keep memory: tables, transactions, dumps and events, for test_memory.py and bench/."""
 
 import pathlib
+from functools import partial
 from typing import Callable, List, Sequence, Tuple
 
 from tests.lib.checks import ATOMIC, HERE_OK, OK, holds, one_shot, script, soon, write
@@ -119,7 +120,7 @@ def whole_reads(asked: Tuple[Term, List[Term]], count: int, writes: bool, server
 def queue(mirror: Connection, client: Connection, requests: List[Term]) -> None:
     """Sends them in one piece, so that no reply has to be read before the next is asked, and waits until all are done."""
     mirror.send(*requests, ("create_table", "done", []))
-    assert soon(lambda: client.ask(("table_info", "done", "size")), lambda reply: reply == 0) == 0, "all are done"
+    assert soon(partial(client.ask, ("table_info", "done", "size")), lambda reply: reply == 0) == 0, "all are done"
     script((client, ("delete_table", "done"), ATOMIC))
 
 

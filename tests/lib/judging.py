@@ -11,7 +11,8 @@ import ast
 import bisect
 import itertools
 import math
-from typing import Any, Dict, Iterator, List, Tuple
+import operator
+from typing import Any, Callable, Dict, Iterator, List, Tuple
 
 from tests.lib.model import EMPTY, Alone, conflict, events, lock_of, whole
 from tests.lib.wire import spell
@@ -200,7 +201,8 @@ def stretches(frames: Any) -> Iterator[Any]:
     """Of each commit that a recorder received without a gap before it, the age of the one before, and its age and events. None is
     before the first; it watches both tables again from their second marker on."""
     age, marks = None, 0
-    for kind, group in itertools.groupby((term for term, _ in frames), lambda term: term[0] == "mnesia_table_event" and term[1][-1][1]):
+    age_of: Callable[[Any], Any] = lambda term: term[0] == "mnesia_table_event" and term[1][-1][1]
+    for kind, group in itertools.groupby((term for term, _ in frames), age_of):
         told = list(group)
         if kind:
             if marks >= len(EMPTY) and age != "gap":
@@ -339,11 +341,12 @@ class Judge:
     def in_time(self) -> Any:
         """Commits, numbers and ages go with the time."""
         ages = sorted((it.age, *it.began) for it in self.attempts if it.began[1] is not None)
-        firsts = [next(group) for _, group in itertools.groupby(ages, lambda it: it[0])]
+        firsts = [next(group) for _, group in itertools.groupby(ages, operator.itemgetter(0))]
         numbers = sorted((it.number, it.sent, it.got) for it in self.attempts if it.end == "commit")
         commits = [(f"the commit of age {it.age}", it.who.sent, it.who.got) for it in self.commits]
-        named = lambda what, spans: [(f"{what} {number}", sent, got) for number, sent, got in spans]
-        return against_time(commits) or against_time(named("commit", numbers)) or against_time(named("the begin of age", firsts))
+        numbered = [(f"commit {number}", sent, got) for number, sent, got in numbers]
+        begun = [(f"the begin of age {age}", sent, got) for age, sent, got in firsts]
+        return against_time(commits) or against_time(numbered) or against_time(begun)
 
     def seen_at(self, who: Any) -> Any:
         """The positions in the order that the replies of a transaction that changed nothing may have."""
@@ -401,8 +404,8 @@ class Judge:
             move, _, sent, got = who.last
             lock, last = lock_of(move), bisect.bisect(starts, got)
             met = asked[bisect.bisect_left(ends, sent) : last] + [it for it in gone if it[0] <= got]
-            is_met = lambda until, owner, other: until >= sent and owner.it is not who and conflict(lock, other)
-            if not any(is_met(*it[1:]) and (it[2].age or ages.get(id(it[2].it), 0)) < who.age for it in reversed(met)):
+            others = [owner for _, until, owner, other in met if until >= sent and owner.it is not who and conflict(lock, other)]
+            if not any((owner.age or ages.get(id(owner.it), 0)) < who.age for owner in others):
                 yield f"age {who.age} was restarted at {move}, and met no older one"
 
 

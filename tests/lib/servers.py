@@ -33,7 +33,7 @@ class Server:
     def __init__(self, program: str, *words: str, path: Optional[str] = None, **options: Any) -> None:
         where = ["--socket", path] if path else ["--port", "0"]
         pipes: Any = {"stdin": subprocess.DEVNULL, "stdout": subprocess.PIPE, "stderr": subprocess.PIPE}
-        self.process = subprocess.Popen([program, "serve", *where, *words], text=True, **pipes, **options)
+        self.process: subprocess.Popen[str] = subprocess.Popen([program, "serve", *where, *words], text=True, **pipes, **options)
         line = self.line()
         if not line.startswith("listening on "):
             raise OSError(f"the server does not start: {line}{self.process.communicate()[1]}")
@@ -95,12 +95,12 @@ class Server:
         connection.close()
         return None
 
-    def file(self, name: str) -> str:
+    def proc(self, name: str) -> str:
         """What the system says of its process."""
         return pathlib.Path(f"/proc/{self.process.pid}/{name}").read_text(encoding="ascii")
 
     def status(self) -> Dict[str, str]:
-        lines = self.file("status").splitlines()
+        lines = self.proc("status").splitlines()
         return {name: value for name, _, value in (line.partition(":") for line in lines)}
 
     def kilobytes(self, name: str = "VmRSS") -> int:
@@ -115,16 +115,20 @@ class Server:
 
     def settled(self, wanted: Tuple[int, int]) -> Tuple[int, int, int]:
         """What it holds, once its threads and descriptors are as many as wanted."""
-        return soon(self.held, lambda found: found[:2] == wanted)
+
+        def is_wanted(found: Tuple[int, int, int]) -> bool:
+            return found[:2] == wanted
+
+        return soon(self.held, is_wanted)
 
     def accepts(self) -> None:
         """Once its first thread waits for a connection."""
-        is_accepting = lambda call: call.split()[0] == ACCEPT4
-        assert is_accepting(soon(lambda: self.file("syscall"), is_accepting)), "it accepts no connection"
+        found = soon(lambda: self.proc("syscall").split()[0], lambda call: call == ACCEPT4)
+        assert found == ACCEPT4, "it accepts no connection"
 
     def used(self) -> float:
         """The seconds of a processor that it has used."""
-        fields = self.file("stat").rsplit(")", 1)[1].split()
+        fields = self.proc("stat").rsplit(")", 1)[1].split()
         return (int(fields[11]) + int(fields[12])) / os.sysconf("SC_CLK_TCK")
 
 

@@ -150,7 +150,7 @@ class Wrong:
 
 
 def is_event(term: Any) -> bool:
-    return term[0] == "mnesia_table_event"
+    return bool(term[0] == "mnesia_table_event")
 
 
 def what_of(event: Any) -> Tuple[Any, ...]:
