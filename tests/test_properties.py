@@ -207,11 +207,6 @@ def test_one_session(replay: Replay, asked: List[Step]) -> None:
     check_sessions(replay, 1, asked)
 
 
-def test_a_planted_level_is_found(replay: Replay) -> None:
-    """A child's write that stays after its abort: a begin, a write, an abort and a look."""
-    assert len(least(STEPS, lambda asked: check_sessions(replay, 1, asked, planted.KeepsAChild))) <= 4
-
-
 @given(asked=MEETING_STEPS)
 def test_sessions_that_meet(replay: Replay, asked: List[Step]) -> None:
     check_sessions(replay, 3, asked)
