@@ -124,6 +124,16 @@ def test_no_overtaking(clients: List[Connection]) -> None:
 
 
 @served(2)
+def test_phantom(clients: List[Connection]) -> None:
+    """A look-up by an index is not joined by a record that was not there."""
+    reader, writer = clients
+    create = ("create_table", "x", [("attributes", ["k", "v"]), ("index", ["v"])])
+    script((reader, create, ATOMIC))
+    opened(reader, writer)
+    script((reader, ("index_read", "x", "q", "v"), []), (writer, ("write", ("x", 9, "q")), "restart"))
+
+
+@served(2)
 @pytest.mark.parametrize("end", [("abort", "why"), "commit"], ids=["an abort", "a commit"])
 def test_an_end_wakes(clients: List[Connection], end: Any) -> None:
     """A session in back-off gets `restart` as soon as the holder's transaction ends, and then goes on."""
