@@ -18,7 +18,7 @@ from typing import Any, Callable, List, Tuple
 
 import pytest
 
-from tests.lib.checks import ATOMIC, CREATE, OK, one_shot, read_waits, script, side_by_side, waits, write
+from tests.lib.checks import ATOMIC, CREATE, OK, one_shot, opened, read_waits, script, side_by_side, waits, write
 from tests.lib.refusing import built
 from tests.lib.servers import Server
 from tests.lib.wire import Connection, Term, frame
@@ -37,7 +37,7 @@ SECONDS = 2.0
 # So many connections raise one record for so many milliseconds, and most of their commits come after another connection's. If the machine
 # takes the others' processors away only one goes on, so the case has so many tries, with so many seconds between.
 TAKERS, TURNS, MOST_AGAIN = 8, 500, 0.5
-TRIES, PAUSE, LEFT_TO_OTHERS = 15, 2.0, 0.2
+TRIES, PAUSE, LEFT_TO_OTHERS = 5, 2.0, 0.2
 # So many requests of a session, after each of which it may poll.
 REQUESTS = 20
 # A table of so many keys, all of which a one-shot asks for so many times.
@@ -56,12 +56,6 @@ def between(what: str, least: float, seconds: float, most: float) -> None:
 
 def middle(what: str, seconds: List[float], most: float) -> None:
     between(f"{what}, in the middle", 0, statistics.median(seconds), most)
-
-
-def opened(*connections: Connection) -> None:
-    """Each has a transaction, in the order of their ages."""
-    for connection in connections:
-        assert connection.ask("begin")[0] == "tid", "begin"
 
 
 def resting(holder: Connection, *others: Connection) -> None:

@@ -13,7 +13,7 @@ from typing import Any, Callable, Dict, Iterator, List, Tuple
 
 import pytest
 
-from tests.lib.checks import ATOMIC, CREATE, HERE_OK, OK, same, watch, write
+from tests.lib.checks import ATOMIC, CREATE, HERE_OK, OK, opened, same, watch, write
 from tests.lib.refusing import built
 from tests.lib.rounds import Rounds
 from tests.lib.servers import Server
@@ -87,11 +87,6 @@ def pulse(seed: int) -> Iterator[Pulse]:
     pulse.join()
 
 
-def opened(connections: List[Connection]) -> None:
-    for connection in connections:
-        assert connection.ask("begin")[0] == "tid"
-
-
 def replies(connections: List[Connection]) -> Tuple[List[Term], float]:
     """One to each, and the longest time in which none came."""
     found: Dict[Connection, Term] = {}
@@ -111,8 +106,7 @@ def commit(connections: List[Connection]) -> None:
 
 def turn(older: List[Connection], younger: List[Connection], value: int, chance: random.Random) -> float:
     """Each of the older waits for one of the younger, which all commit at once; the longest silence before the last has its lock."""
-    opened(older)
-    opened(younger)
+    opened(*older, *younger)
     for key, connection in enumerate(younger):
         same("a write", connection.ask(write(key, value)), OK)
     for key, connection in enumerate(older):

@@ -72,6 +72,12 @@ def script(*steps: Tuple[Connection, Term, Term]) -> None:
         assert reply == wanted, differs(f"step {line}, {request!r:.200}", reply, wanted)
 
 
+def opened(*connections: Connection) -> None:
+    """Each has a transaction, in the order of their ages."""
+    for connection in connections:
+        assert connection.ask("begin")[0] == "tid", "begin"
+
+
 def waits(connection: Connection) -> None:
     """Nothing comes on it."""
     connection.socket.settimeout(QUIET)

@@ -21,6 +21,8 @@ from tests.lib.wire import spell
 LONG = bytes(4000)
 # The transactions of fewer commits than these may be open one after another by chance.
 FEW = 100
+# Of a lock's first and last time, its owner and itself.
+TIMES = operator.itemgetter(0, 1)
 
 
 class Undecided(Exception):
@@ -381,7 +383,7 @@ class Judge:
 
     def locks(self) -> Any:
         """Finds two transactions that surely had conflicting locks at once."""
-        spans = sorted((start, end, Owner(it), lock) for it in self.attempts for lock, start, end in it.locks())
+        spans = sorted(((start, end, it, lock) for it in self.attempts for lock, start, end in it.locks()), key=TIMES)
         held: List[Any] = []
         most = 0
         for start, end, owner, lock in spans:
@@ -395,7 +397,7 @@ class Judge:
 
     def restarts(self) -> Iterator[Any]:
         """Checks that each restarted transaction met an older one that had a lock or waited for it."""
-        asked = sorted((sent, until, Owner(it), lock) for it in [*self.attempts, *self.shots] for lock, sent, until in it.asked())
+        asked = sorted(((sent, until, it, lock) for it in [*self.attempts, *self.shots] for lock, sent, until in it.asked()), key=TIMES)
         # A client that vanished may have requested it until the end.
         gone, asked = [it for it in asked if it[1] == math.inf], [it for it in asked if it[1] < math.inf]
         starts, ends = [it[0] for it in asked], list(itertools.accumulate((it[1] for it in asked), max))
@@ -404,19 +406,9 @@ class Judge:
             move, _, sent, got = who.last
             lock, last = lock_of(move), bisect.bisect(starts, got)
             met = asked[bisect.bisect_left(ends, sent) : last] + [it for it in gone if it[0] <= got]
-            others = [owner for _, until, owner, other in met if until >= sent and owner.it is not who and conflict(lock, other)]
-            if not any((owner.age or ages.get(id(owner.it), 0)) < who.age for owner in others):
+            others = [owner for _, until, owner, other in met if until >= sent and owner is not who and conflict(lock, other)]
+            if not any((owner.age or ages.get(id(owner), 0)) < who.age for owner in others):
                 yield f"age {who.age} was restarted at {move}, and met no older one"
-
-
-class Owner:
-    """Comes after equal times in a sorted list."""
-
-    def __init__(self, it: Any) -> None:
-        self.it, self.age = it, it.age
-
-    def __lt__(self, other: Any) -> bool:
-        return id(self) < id(other)
 
 
 class Follower:
