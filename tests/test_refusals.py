@@ -13,6 +13,7 @@ each stream; and one that leaves something after a one-shot of a stream.
 import collections
 import itertools
 import time
+from functools import partial
 from typing import Any, Callable, Counter, List
 
 import pytest
@@ -137,7 +138,7 @@ def library(tmp_path_factory: pytest.TempPathFactory) -> Any:
 @pytest.fixture(scope="session")
 def replay(tabd: str, library: str) -> Any:
     """Starts a replay with some options whose nth allocation is refused."""
-    start = lambda words, nth, *more, **wrong: RefusedReplay(tabd, library, words, nth, *more, **wrong)
+    start = partial(RefusedReplay, tabd, library)
     with start(["replay"], 1) as run:
         run.ask(frame((1, "join")))
         if not run.ended()[0]:
@@ -251,6 +252,7 @@ def faults_of(replay: Any, does: Any, stream: Any, start: int, **wrong: Any) -> 
         except AssertionError as differs:
             faults.append(f"allocation {nth}: {differs}")
     print(ends)
+    assert faults or ends.keys() & {"start", "frame", "asked again"}, "nothing was refused"
     return faults
 
 
