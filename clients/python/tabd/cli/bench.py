@@ -10,12 +10,13 @@ import contextlib
 import multiprocessing
 import os
 import random
+import signal
 import time
 from typing import Any, Callable, Dict, List, Tuple, Union
 
 import tabd
 
-from .common import Failure, Progress, fraction, number, say_object, server_of
+from .common import Failure, Progress, fraction, number, say_line, say_object, server_of
 from .wire import Wire, frame, refuse
 
 # Each bucket ends at 1.25 times the one before it, from 10 microseconds to ten seconds.
@@ -57,7 +58,7 @@ def _work(address: Tuple[Union[int, str], str], requests: List[bytes], seconds: 
                 then, now = now, time.monotonic()
                 counts[_bucket(now - then)] += 1
                 counts[-1] = at = at + 1
-    except (tabd.Error, KeyboardInterrupt):
+    except tabd.Error:
         # The program says so, on one line.
         raise SystemExit(1) from None
 
@@ -91,8 +92,11 @@ def _run(words: argparse.Namespace, address: Tuple[Union[int, str], str], table:
         multiprocessing.Process(target=_work, args=(address, _requests(words, table, chance), words.seconds, counter), daemon=True)
         for counter in counters
     ]
+    # Ctrl-C is for all processes of the terminal; this one ends the workers.
+    before_start = signal.pthread_sigmask(signal.SIG_BLOCK, {signal.SIGINT})
     for worker in workers:
         worker.start()
+    signal.pthread_sigmask(signal.SIG_SETMASK, before_start)
     before = 0
     while any(worker.is_alive() for worker in workers):
         time.sleep(STEP_SECONDS)
@@ -122,7 +126,7 @@ def bench(words: argparse.Namespace) -> int:
     quantiles: Dict[str, Any] = {name: int(quantile(counts, part) * 1e6) for name, part in (("p50", 0.5), ("p99", 0.99), ("p999", 0.999))}
     say_object(words, {"requests": total, "requests_a_second": rate, **{f"{name}_microseconds": each for name, each in quantiles.items()}})
     if not words.json:
-        print("\n".join(histogram(counts)))
+        say_line("\n".join(histogram(counts)))
     return 0
 
 

@@ -25,8 +25,8 @@ from typing import Any, Callable, Dict, List, NamedTuple, Optional, Tuple, Union
 
 import tabd
 
-from .common import Failure, fraction, say_object, server_of
-from .dump import Definition, Source, definition, exists, make, opened, take
+from .common import Failure, flush, fraction, say_line, say_object, server_of
+from .dump import Calls, Definition, Source, definition, exists, make, opened, take
 from .load import Loader
 from .store import Store
 from .wire import Batch, Wire, commit_of, frame, refuse
@@ -77,8 +77,8 @@ class Keeper:
         if self.settings.json:
             say_object(argparse.Namespace(json=True), {"event": event, "commit": commit, **more})
         else:
-            print(event, commit, *[f"{name}={value}" for name, value in more.items()])
-        sys.stdout.flush()
+            say_line(" ".join([event, str(commit), *[f"{name}={value}" for name, value in more.items()]]))
+        flush()
 
     def note(self, text: str) -> None:
         print(f"tabd-cli keep: {text}", file=sys.stderr, flush=True)
@@ -217,7 +217,7 @@ class Keeper:
         self.definitions = {name: definition(side, name) for name in names}
         # The dump uses another connection. As long as this one gets replies, no other server is at the address: a dump of a server that was
         # started meanwhile, and has not been restored, must not replace the older dump.
-        wire, taken = take(self._connect_anew, names, self.store.begin(), self._told, lambda: side.ask("commit"))
+        wire, taken = take(self._connect_anew, names, self.store.begin(), Calls(self._told, lambda: side.ask("commit")))
         self.store.begun()
         self.dump_size, self.last = taken.size, taken.commit
         self.say("kept", taken.commit, tables=len(names), records=sum(taken.counts.values()))

@@ -28,7 +28,7 @@ import struct
 import zlib
 from typing import IO, Iterator, Optional
 
-from .common import Failure
+from .common import Failure, naming
 from .dump import fsync_folder, opened
 from .wire import commit_of, operations
 
@@ -44,7 +44,7 @@ class Store:
         self.locked = open(self.path("lock"), "w")
         try:
             fcntl.flock(self.locked, fcntl.LOCK_EX | fcntl.LOCK_NB)
-        except OSError as error:
+        except BlockingIOError as error:
             raise Failure(f"a keeper runs in {folder} already") from error
         self.token = self._token()
         self.generation = self._newest()
@@ -66,12 +66,13 @@ class Store:
         with contextlib.suppress(FileNotFoundError), open(path, "rb") as file:
             return file.read()
         token = secrets.token_hex(8).encode()
-        with open(path + ".part", "wb") as file:
-            file.write(token)
-            file.flush()
-            os.fsync(file.fileno())
-        os.rename(path + ".part", path)
-        fsync_folder(path)
+        with naming(path):
+            with open(path + ".part", "wb") as file:
+                file.write(token)
+                file.flush()
+                os.fsync(file.fileno())
+            os.rename(path + ".part", path)
+            fsync_folder(path)
         return token
 
     def _newest(self) -> int:
@@ -87,9 +88,10 @@ class Store:
         """Begins the next generation's log, and gives the path to which its dump is to be renamed."""
         self.close()
         path = self.log_path(self.generation + 1)
-        self.log, self.log_size = open(path, "wb"), 0
-        os.fsync(self.log.fileno())
-        fsync_folder(path)
+        with naming(path):
+            self.log, self.log_size = open(path, "wb"), 0
+            os.fsync(self.log.fileno())
+            fsync_folder(path)
         return self.dump_path(self.generation + 1)
 
     def begun(self) -> None:
@@ -103,9 +105,10 @@ class Store:
     def append(self, frames: bytes) -> None:
         """Writes whole batches, and returns when they are on the disk."""
         assert self.log is not None
-        self.log.write(CHUNK.pack(len(frames), zlib.crc32(frames)) + frames)
-        self.log.flush()
-        os.fdatasync(self.log.fileno())
+        with naming(self.log.name):
+            self.log.write(CHUNK.pack(len(frames), zlib.crc32(frames)) + frames)
+            self.log.flush()
+            os.fdatasync(self.log.fileno())
         self.log_size += CHUNK.size + len(frames)
 
     def set_aside(self) -> None:
