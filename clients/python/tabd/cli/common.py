@@ -67,15 +67,18 @@ def naming(path: str) -> Iterator[None]:
         raise OSError(error.errno, error.strerror, path) from error
 
 
-def end_orderly() -> None:
-    """SIGTERM ends the program as an exception does, so that it removes what it began."""
+@contextlib.contextmanager
+def ending() -> Iterator[None]:
+    """SIGTERM ends the block as an exception does, so that it removes what it began."""
 
     def end(*_: object) -> None:
         sys.exit(128 + signal.SIGTERM)
 
-    # Only a main thread can ask for it.
-    with contextlib.suppress(ValueError):
-        signal.signal(signal.SIGTERM, end)
+    before = signal.signal(signal.SIGTERM, end)
+    try:
+        yield
+    finally:
+        signal.signal(signal.SIGTERM, before)
 
 
 def address(text: str) -> Tuple[Union[int, str], str]:

@@ -30,13 +30,13 @@ import contextlib
 import hashlib
 import os
 import time
-from typing import IO, Any, Callable, Dict, Iterator, List, NamedTuple, Sequence, Tuple
+from typing import IO, Any, Callable, Dict, Iterator, List, NamedTuple, Optional, Sequence, Tuple
 
 import tabd
 
-from .common import Failure, Progress, end_orderly, naming, say_object, server_of
+from .common import Failure, Progress, ending, naming, say_object, server_of
 from .load import Loader
-from .wire import LONGEST_HEAD, PIECE, Batch, Dumped, Wire, dumped, elements, frame, refuse
+from .wire import LONGEST_HEAD, PIECE, UNDO_SECONDS, Batch, Dumped, Wire, dumped, elements, frame, refuse
 
 END_BYTES = len(frame(("tabd_dump_end", bytes(32))))
 REST_SECONDS = 0.005
@@ -289,6 +289,10 @@ def make(wire: Wire, table: Definition) -> None:
     refuse(wire.ask(("create_table", table.name, options)))
 
 
+def is_empty(wire: Wire, name: str) -> bool:
+    return bool(refuse(wire.ask(("table_info", name, "size"))) == 0)
+
+
 def exists(wire: Wire, name: str) -> bool:
     try:
         refuse(wire.ask(("table_info", name, "size")))
@@ -301,21 +305,31 @@ def fill(connect: Callable[[], Wire], source: Source, said: Callable[[int], None
     """Creates a dump's tables and writes their records. If it fails, and the server goes on, it deletes the tables that it created."""
     for careful in (False, True):
         made: List[str] = []
+        begun: Optional[Definition] = None
         with connect() as wire:
             try:
                 loader = Loader(wire, careful, said)
-                for table in source.tables:
-                    make(wire, table)
-                    made.append(table.name)
-                    loader.load(source.records(table.name))
+                for begun in source.tables:
+                    make(wire, begun)
+                    made.append(begun.name)
+                    loader.load(source.records(begun.name))
                     loader.finish()
                 return
             except BaseException as error:
-                with connect() as undo, contextlib.suppress(tabd.Error):
-                    for name in made:
-                        undo.ask(("delete_table", name))
+                with contextlib.suppress(tabd.Error), connect() as undo:
+                    undo.socket.settimeout(UNDO_SECONDS)
+                    _undo(undo, made, begun)
                 if careful or not isinstance(error, tabd.BadTerm):
                     raise
+
+
+def _undo(wire: Wire, made: List[str], begun: Optional[Definition]) -> None:
+    """Deletes the tables that were made. If no reply came to the creation of the last one, it is deleted if it is as it would have been made."""
+    if begun is not None and begun.name not in made:
+        if definition(wire, begun.name) == begun._replace(records=0) and is_empty(wire, begun.name):
+            wire.ask(("delete_table", begun.name))
+    for name in made:
+        wire.ask(("delete_table", name))
 
 
 # The commands
@@ -325,16 +339,16 @@ def dump(words: argparse.Namespace) -> int:
     port, host = server_of(words)
     names = list(dict.fromkeys(words.table))
     progress = Progress()
-    end_orderly()
 
     def written(item: Dumped, size: int, whole: int) -> None:
         progress.show(f"{item.table}: {100 * size // whole} % of {item.records} records")
 
     progress.show("waits for the tables' read locks")
-    try:
-        wire, taken = take(lambda: Wire(port, host), names, os.path.abspath(words.file), Calls(written=written))
-    finally:
-        progress.end()
+    with ending():
+        try:
+            wire, taken = take(lambda: Wire(port, host), names, os.path.abspath(words.file), Calls(written=written))
+        finally:
+            progress.end()
     wire.close()
     say_object(words, {"commit": taken.commit, "tables": len(names), "records": sum(taken.counts.values()), "bytes": taken.size})
     return 0
@@ -343,8 +357,7 @@ def dump(words: argparse.Namespace) -> int:
 def restore(words: argparse.Namespace) -> int:
     port, host = server_of(words)
     progress = Progress()
-    end_orderly()
-    with opened(words.file) as source, Wire(port, host) as wire:
+    with ending(), opened(words.file) as source, Wire(port, host) as wire:
         there = [table.name for table in source.tables if exists(wire, table.name)]
         if there and not words.replace:
             raise Failure(f"there is a table {there[0]} already, and nothing was changed (--replace deletes it first)")

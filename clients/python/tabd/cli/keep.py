@@ -26,7 +26,7 @@ from typing import Any, Callable, Dict, List, NamedTuple, Optional, Tuple, Union
 import tabd
 
 from .common import Failure, flush, fraction, say_line, say_object, server_of
-from .dump import Calls, Definition, Source, definition, exists, make, opened, take
+from .dump import Calls, Definition, Source, definition, exists, is_empty, make, opened, take
 from .load import Loader
 from .store import Store
 from .wire import Batch, Wire, commit_of, frame, refuse
@@ -198,7 +198,7 @@ class Keeper:
         for table in tables:
             if not exists(side, table.name):
                 continue
-            if definition(side, table.name) == table._replace(records=0) and refuse(side.ask(("table_info", table.name, "size"))) == 0:
+            if definition(side, table.name) == table._replace(records=0) and is_empty(side, table.name):
                 continue
             if self.settings.foreign == "server":
                 self.note("keeps the server's tables; the folder's are set aside")
@@ -307,7 +307,9 @@ def keep(words: argparse.Namespace) -> int:
         words.quiet,
         words.json,
     )
-    Keeper(server_of(words), Store(words.folder), settings).run()
+    address = server_of(words)
+    with Store(words.folder) as store:
+        Keeper(address, store, settings).run()
     return 0
 
 

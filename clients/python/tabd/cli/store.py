@@ -42,14 +42,29 @@ class Store:
         self.folder = folder
         os.makedirs(folder, exist_ok=True)
         self.locked = open(self.path("lock"), "w")
+        self.log: Optional[IO[bytes]] = None
+        self.log_size = 0
+        try:
+            self._lock()
+            self.token = self._token()
+            self.generation = self._newest()
+        except BaseException:
+            self.locked.close()
+            raise
+
+    def __enter__(self) -> Store:
+        return self
+
+    def __exit__(self, *_: object) -> None:
+        with contextlib.suppress(OSError):
+            self.close()
+        self.locked.close()
+
+    def _lock(self) -> None:
         try:
             fcntl.flock(self.locked, fcntl.LOCK_EX | fcntl.LOCK_NB)
         except BlockingIOError as error:
-            raise Failure(f"a keeper runs in {folder} already") from error
-        self.token = self._token()
-        self.generation = self._newest()
-        self.log: Optional[IO[bytes]] = None
-        self.log_size = 0
+            raise Failure(f"a keeper runs in {self.folder} already") from error
 
     def path(self, name: str) -> str:
         return os.path.join(os.path.abspath(self.folder), name)

@@ -15,6 +15,8 @@ from ..wire import GREETING, check_served
 
 # A server that accepts no more connections still lets the system open them, and says nothing on them.
 OPENING_SECONDS = 10.0
+# So long a command that failed waits while it removes what it began.
+UNDO_SECONDS = 10.0
 PIECE = 1 << 18
 # Bytes of a request's payload, at most, and operations of a one-shot.
 MOST_BYTES, MOST_OPERATIONS = 1_048_576, 1_000
