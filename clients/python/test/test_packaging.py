@@ -1,8 +1,11 @@
-"""What packaging/ has: the completion, the units, and with TABD_LONG=1 the packages."""
+"""What packaging/ has: the completions, the units, and with TABD_LONG=1 the packages, which are also installed in a new Debian by mmdebstrap."""
 
 from __future__ import annotations
 
+import contextlib
+import io
 import os
+import re
 import shutil
 import subprocess
 import sys
@@ -10,7 +13,9 @@ import tempfile
 import unittest
 from typing import List
 
-from servers import HERE, PROGRAM
+from servers import HERE, PROGRAM  # isort: skip (it makes `tabd` known)
+
+from tabd.cli import main
 
 PACKAGING = os.path.join(HERE, "..", "..", "..", "packaging")
 UNITS = ("tabd.service", "tabd-socket.service", "tabd-keep.service")
@@ -32,21 +37,60 @@ def is_program() -> bool:
 
 @unittest.skipUnless(os.path.isdir(PACKAGING), "the client was copied without the repository")
 class Packaging(unittest.TestCase):
-    def completed(self, *words: str) -> List[str]:
-        """The completions that bash offers for the last argument."""
-        script = f". {PACKAGING}/tabd-cli.bash; COMP_WORDS=(\"$@\"); COMP_CWORD=$(($# - 1)); _tabd_cli; printf '%s\\n' \"${{COMPREPLY[@]}}\""
+    @classmethod
+    def setUpClass(cls) -> None:
+        sys.path.insert(0, PACKAGING)
+        cls.addClassCleanup(sys.path.remove, PACKAGING)
+
+    def completed(self, *words: str, text: str = "") -> List[str]:
+        """The completions that bash offers for the last argument, by the text of the completion, or that of tabd-cli."""
+        text = text or f". {PACKAGING}/tabd-cli.bash"
+        function = "_" + words[0].replace("-", "_")
+        script = f"{text}\nCOMP_WORDS=(\"$@\"); COMP_CWORD=$(($# - 1)); {function}; printf '%s\\n' \"${{COMPREPLY[@]}}\""
         return said("bash", "-c", script, "bash", *words).split()
 
     def test_completion(self) -> None:
-        sys.path.insert(0, PACKAGING)
-        self.addCleanup(sys.path.remove, PACKAGING)
         import manual
 
         with open(os.path.join(PACKAGING, "tabd-cli.bash"), encoding="utf-8") as file:
-            self.assertEqual(file.read(), manual.completion_of_client(), "packaging/manual.py generates it again")
+            self.assertEqual(file.read(), manual.completion_of_client(), "packaging/manual.py writes it again")
         self.assertEqual(self.completed("tabd-cli", "re"), ["read", "restore"])
         self.assertEqual(self.completed("tabd-cli", "--server", "4000", "dr"), ["drop"])
         self.assertEqual(self.completed("tabd-cli", "watch", "--d"), ["--dump", "--detailed"])
+        self.assertEqual(self.completed("tabd-cli", "create", "t", "--type", ""), ["set", "bag"])
+        self.assertIn("tabd-cli.bash", self.completed("tabd-cli", "restore", f"{PACKAGING}/tabd-c")[0])
+
+    def test_completion_has_all_words(self) -> None:
+        """As the help of tabd-cli, and of each command, has them."""
+        commands = [words.partition("  ")[0] for words in re.findall(r"^    (\w+  .*)", self.help(), re.M)]
+        self.assertGreater(len(commands), 10)
+        self.assertEqual(self.completed("tabd-cli", ""), [*commands, *self.options(self.help())])
+        for command in commands:
+            self.assertIn(command, self.completed("tabd-cli", command[:2]))
+            self.assertEqual(self.completed("tabd-cli", command, "--"), self.options(self.help(command)))
+
+    @staticmethod
+    def help(*words: str) -> str:
+        out = io.StringIO()
+        with contextlib.redirect_stdout(out), contextlib.suppress(SystemExit):
+            main([*words, "--help"])
+        return out.getvalue()
+
+    @staticmethod
+    def options(text: str) -> List[str]:
+        """The options that a help page has a line for."""
+        return re.findall(r"^  (?:-\w, )?(--[a-z-]+)", text, re.M)
+
+    @unittest.skipUnless(PROGRAM, "TABD names no program")
+    def test_completion_of_the_server(self) -> None:
+        import manual
+
+        text = manual.completion_of_server(PROGRAM)
+        self.assertEqual(self.completed("tabd", "s", text=text), ["serve"])
+        for command in ("serve", "replay"):
+            wanted = re.findall(r"^ +(?:-\w, )?(--[a-z-]+)", said(PROGRAM, command, "--help"), re.M)
+            self.assertIn("--outbox", wanted)
+            self.assertEqual(sorted(self.completed("tabd", command, "--", text=text)), sorted(wanted))
 
     @unittest.skipUnless(shutil.which("systemd-analyze"), "there is no systemd-analyze")
     def test_units(self) -> None:

@@ -173,6 +173,7 @@ class Troubled(Patient):
             self.assertEqual(file.read(), b"older", command)
 
     def test_each_command_is_tried(self) -> None:
+        commands: Any
         [commands] = [action.choices for action in parser()._actions if action.dest == "command"]
         self.assertEqual(sorted(commands), sorted([*self.words, *PAGES, "keep"]))
 
