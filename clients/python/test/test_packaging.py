@@ -11,7 +11,7 @@ import subprocess
 import sys
 import tempfile
 import unittest
-from typing import List
+from typing import List, Set
 
 from servers import HERE, PROGRAM  # isort: skip (it makes `tabd` known)
 
@@ -19,6 +19,12 @@ from tabd.cli import main
 
 PACKAGING = os.path.join(HERE, "..", "..", "..", "packaging")
 UNITS = ("tabd.service", "tabd-socket.service", "tabd-keep.service")
+# Files of both packages, of which each is there after the installation.
+WANTED = ["usr/bin/tabd", "usr/bin/tabd-cli", "usr/share/man/man1/tabd.1.gz", "usr/share/man/man1/tabd-cli.1.gz"]
+WANTED += [f"usr/share/bash-completion/completions/{name}" for name in ("tabd", "tabd-cli")]
+WANTED += [f"usr/lib/systemd/system/{name}" for name in UNITS]
+WANTED += [f"usr/share/doc/{name}/copyright" for name in ("tabd", "python3-tabd")]
+NOBODY = 65534
 # What `systemd-analyze security` may rate a unit, times ten.
 MOST = 20
 
@@ -115,6 +121,57 @@ class Packaging(unittest.TestCase):
             for name in ("tabd", "tabd-cli"):
                 page = subprocess.run(["man", "-l", f"{root}/usr/share/man/man1/{name}.1.gz"], stdout=subprocess.PIPE, text=True, check=True).stdout
                 self.assertIn("EXIT STATUS", page)
+
+    @unittest.skipUnless(os.environ.get("TABD_LONG") and shutil.which("mmdebstrap") and os.geteuid() == 0 and is_program(), "no TABD_LONG, or no mmdebstrap")
+    def test_new_debian(self) -> None:
+        """Both packages in a new Debian: installed, started as the unit does it, served, and removed."""
+        with tempfile.TemporaryDirectory() as folder:
+            root = os.path.join(folder, "root")
+            said("mmdebstrap", "--quiet", "--variant=minbase", "--include=python3", "bookworm", root)
+            paths = said(sys.executable, os.path.join(PACKAGING, "deb"), PROGRAM, os.path.join(root, "tmp", "debs")).split()
+            before = files_of(root)
+            said("chroot", root, "dpkg", "-i", *[f"/tmp/debs/{os.path.basename(path)}" for path in paths])
+            added = files_of(root) - before
+            for name in WANTED:
+                self.assertIn(name, added)
+            self.serves(root)
+            said("chroot", root, "dpkg", "--purge", "tabd", "python3-tabd")
+            left = {name for name in files_of(root) - before if not name.startswith(("var/lib/dpkg", "var/log", "var/cache"))}
+            self.assertEqual(left, set())
+
+    def serves(self, root: str) -> None:
+        """With the unit's options, by a user without rights; and keeps a table over the server's end."""
+        with open(os.path.join(root, "usr/lib/systemd/system/tabd.service")) as file:
+            [options] = re.findall(r'^Environment="TABD_OPTIONS=--port 4000 (.*)"$', file.read(), re.M)
+        kept = os.path.join(root, "var/lib/tabd-keep")
+        os.mkdir(kept)
+        os.chown(kept, NOBODY, NOBODY)
+        with contextlib.ExitStack() as running:
+            for round, wanted in enumerate(("kept 1 ", "restored 1 ")):
+                server = running.enter_context(started(root, "tabd", "serve", "--port", "0", *options.split()))
+                assert server.stdout is not None
+                port = server.stdout.readline().rsplit(":", 1)[1].strip()
+                if round == 0:
+                    for words in (("create", "route"), ("write", "route", "alice", "7")):
+                        said("chroot", root, "tabd-cli", "--server", port, *words)
+                keeper = running.enter_context(started(root, "tabd-cli", "--server", port, "keep", "/var/lib/tabd-keep", "route"))
+                assert keeper.stdout is not None
+                self.assertIn(wanted, keeper.stdout.readline())
+                self.assertEqual(said("chroot", root, "tabd-cli", "--server", port, "read", "route", "alice"), "{route,alice,7}\n")
+                for process in (keeper, server):
+                    process.kill()
+        shutil.rmtree(kept)
+
+
+def started(root: str, *words: str) -> "subprocess.Popen[str]":
+    """A program of the folder, run by a user without rights."""
+    command = ["chroot", f"--userspec={NOBODY}:{NOBODY}", root, *words]
+    return subprocess.Popen(command, stdout=subprocess.PIPE, text=True, env={"PATH": "/usr/bin", "PYTHONDONTWRITEBYTECODE": "1"})
+
+
+def files_of(root: str) -> Set[str]:
+    """The paths of all files in a folder."""
+    return {os.path.relpath(os.path.join(folder, name), root) for folder, _, names in os.walk(root) for name in names}
 
 
 if __name__ == "__main__":
