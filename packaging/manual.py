@@ -174,8 +174,8 @@ def of_client(version: str) -> str:
                 takes = f" \\fI{action.metavar or (action.dest.upper() if action.nargs != 0 else '')}\\fR" if action.option_strings else ""
                 title = plain(action.option_strings[-1]) if action.option_strings else str(action.metavar)
                 lines += [".TP", f"\\fB{title}\\fR{takes}", plain(action.help)]
-    lines += [".SH EXIT STATUS", ".TP", ".B 0", "It is done.", ".TP", ".B 1", "The server refused it, or wasn't there; standard error has one line."]
-    lines += [".TP", ".B 2", "The arguments on the command line are wrong.", ".SH SEE ALSO", ".BR tabd (1),", "/usr/share/doc/python3\\-tabd/OPERATING.md"]
+    lines += [".SH EXIT STATUS", ".TP", ".B 0", "It is done.", ".TP", ".B 1", "The server refused it or could not be reached, or a file could not be written; standard error has one line."]
+    lines += [".TP", ".B 2", "The arguments on the command line are wrong.", ".TP", ".B 130", "Ctrl\\-C ended it.", ".SH SEE ALSO", ".BR tabd (1),", "/usr/share/doc/python3\\-tabd/OPERATING.md"]
     return "\n".join(lines) + "\n"
 
 

@@ -11,7 +11,7 @@ import subprocess
 import sys
 import tempfile
 import unittest
-from typing import List, Set
+from typing import IO, Iterator, List, Set
 
 from servers import HERE, PROGRAM  # isort: skip (it makes `tabd` known)
 
@@ -146,27 +146,29 @@ class Packaging(unittest.TestCase):
         kept = os.path.join(root, "var/lib/tabd-keep")
         os.mkdir(kept)
         os.chown(kept, NOBODY, NOBODY)
-        with contextlib.ExitStack() as running:
-            for round, wanted in enumerate(("kept 1 ", "restored 1 ")):
-                server = running.enter_context(started(root, "tabd", "serve", "--port", "0", *options.split()))
-                assert server.stdout is not None
-                port = server.stdout.readline().rsplit(":", 1)[1].strip()
-                if round == 0:
+        for event in ("kept", "restored"):
+            with started(root, "tabd", "serve", "--port", "0", *options.split()) as serving:
+                port = next(serving).rsplit(":", 1)[1].strip()
+                if event == "kept":
                     for words in (("create", "route"), ("write", "route", "alice", "7")):
                         said("chroot", root, "tabd-cli", "--server", port, *words)
-                keeper = running.enter_context(started(root, "tabd-cli", "--server", port, "keep", "/var/lib/tabd-keep", "route"))
-                assert keeper.stdout is not None
-                self.assertIn(wanted, keeper.stdout.readline())
-                self.assertEqual(said("chroot", root, "tabd-cli", "--server", port, "read", "route", "alice"), "{route,alice,7}\n")
-                for process in (keeper, server):
-                    process.kill()
+                with started(root, "tabd-cli", "--server", port, "keep", "/var/lib/tabd-keep", "route") as keeping:
+                    self.assertEqual(next(keeping).split()[0], event)
+                    self.assertEqual(said("chroot", root, "tabd-cli", "--server", port, "read", "route", "alice"), "{route,alice,7}\n")
         shutil.rmtree(kept)
 
 
-def started(root: str, *words: str) -> "subprocess.Popen[str]":
-    """A program of the folder, run by a user without rights."""
+@contextlib.contextmanager
+def started(root: str, *words: str) -> Iterator[IO[str]]:
+    """The output of a program of the folder, run by a user without rights; it is killed after the block."""
     command = ["chroot", f"--userspec={NOBODY}:{NOBODY}", root, *words]
-    return subprocess.Popen(command, stdout=subprocess.PIPE, text=True, env={"PATH": "/usr/bin", "PYTHONDONTWRITEBYTECODE": "1"})
+    environment = {"PATH": "/usr/sbin:/usr/bin", "PYTHONDONTWRITEBYTECODE": "1"}
+    with subprocess.Popen(command, stdout=subprocess.PIPE, text=True, env=environment) as process:
+        assert process.stdout is not None
+        try:
+            yield process.stdout
+        finally:
+            process.kill()
 
 
 def files_of(root: str) -> Set[str]:
