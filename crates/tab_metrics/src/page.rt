@@ -31,7 +31,7 @@ impl Holdings {
         let (tables, entries) = shared_tables(host, shared)?;
         let mut watchers = Vec::new(alloc);
         for entry in tables.tables() {
-            let count = shared.hold(host).watchers(entry.pair().0);
+            let count = shared.hold(host).watchers(&entry.pair().0);
             watchers.push(count as u64)?;
         }
         Ok(Holdings {
