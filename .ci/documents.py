@@ -4,11 +4,11 @@
     documents.py PROGRAM
     documents.py --write | --reset
 
-Of the documents at the top, docs/*.md and the clients' README.md: each file that is named in backticks or by a link is in the
+Of the documents at the top, docs/*.md and the README.md of crates and clients: each file that is named in backticks or by a link is in the
 repository; so is each section that is named with its document, and each crate, function, type and definition (`Type::function` in
-an `impl` of that type, in a table's row that names one file in that file, and under a heading of a crate as a word of its code,
+an `impl` of that type, in a table's row that names one file in that file, and in a crate's README.md as a word of its code,
 or of tab_model's or tab_proto's); each `--option` is in the program's help, in that of `rt`, in tests/conftest.py, in the text of a
-script that the same line names, or, on the page of tabd-cli, in its sources. docs/MAP.md has each file of definitions. The frames of
+script that the same line names, or, on the page of tabd-cli, in its sources. Each file of definitions has a comment. The frames of
 docs/PROTOCOL.md, "Bytes", are sent as printed, and are the encoding of the terms next to them. One line reports each fault; the last line is
 `N passed, M failed`, and the status is 1 if one failed. It takes some seconds.
 
@@ -65,7 +65,7 @@ PATH = re.compile(r"[\w.*-]*(?:/[\w.*-]+)+/?|[\w.-]+/|[\w*-]+\.(?:py|rt|md|tsv|t
 OUTSIDE = re.compile(r"\w+://\S+|(?<![\w.*-])~?/[\w./-]+")
 ARITY = re.compile(r"\w+/\d(,\d)*")
 NAME = re.compile(r"[^\W\d]\w*(::[^\W\d]\w*)?")
-SECTION = re.compile(r"## (\w+):")
+README = re.compile(r"crates/(\w+)/README\.md")
 # `docs/PROTOCOL.md, "Events"`: a document and the beginning of a heading in it.
 HEADING = re.compile(r'(?:docs/)?(\w+\.md)[`)]?,\s"([^"]+)"')
 COMMENT = {".rt": re.compile(r"//.*"), ".antt": re.compile(r"--.*"), ".py": re.compile(r"^\s*#.*", re.M), ".erl": re.compile(r"%.*")}
@@ -148,18 +148,15 @@ class Document:
             self.faults.append(f"{self.path}: {what}")
 
     def names(self):
-        section = None
+        crate = README.fullmatch(self.path)
         for line in FENCE.sub("", self.text).split("\n"):
-            if line.startswith("## "):
-                head = SECTION.match(line)
-                section = head[1] if head and head[1] in self.tree.words else None
             for path in LINK.findall(line):
                 self.check(self.tree.has(path, self.path), f"no file {path}")
             spans = SPAN.findall(line)
             files = [it for it in spans if line.startswith("|") and it.endswith(".rt") and self.tree.has(it, self.path)]
-            crates = {section} | {crate for crate in self.tree.words if re.search(rf"\b{re.escape(crate)}\b", line)}
+            crates = crate and {crate[1]} | {it for it in self.tree.words if re.search(rf"\b{re.escape(it)}\b", line)}
             for span in spans:
-                self.span(span, section and crates, files)
+                self.span(span, crates, files)
 
     def span(self, span, crates, files):
         if span in ELSEWHERE:
@@ -209,15 +206,10 @@ class Document:
                 self.check(known, f"no option {option}")
 
 
-def unlisted(tree):
-    """The files of specs that docs/MAP.md doesn't have: a row has the full path of one, and the last part of its neighbours."""
-    rows, named = [line for line in read_text("docs/MAP.md").split("\n") if line.startswith("|")], set()
-    for row in rows:
-        folder = ""
-        for span in SPAN.findall(row):
-            folder = os.path.dirname(span) or folder
-            named.add(os.path.join("crates", folder, os.path.basename(span)) + ".antt")
-    return sorted(it for it in tree.files if re.fullmatch(r"crates/\w+/specs/(?!Lib)\w+\.antt", it) and it not in named)
+def unexplained(tree):
+    """The files of definitions that have no comment, which docs/MAP.md, "Definitions", lists."""
+    files = sorted(it for it in tree.files if re.fullmatch(r"crates/\w+/specs/(?!Lib)\w+\.antt", it))
+    return [it for it in files if not re.search(r"^--", tree.texts[it], re.M)]
 
 
 def text_of(words):
@@ -341,7 +333,7 @@ def main():
     program, tree = os.path.abspath(sys.argv[1]), Tree()
     helps = "".join(text_of([program, *words, "--help"]) for words in ([], ["serve"], ["replay"])) + "--help --version"
     rt, faults, count = text_of(["rt", "help"]), [], 0
-    faults += [f"docs/MAP.md: nothing of {it}" for it in unlisted(tree)]
+    faults += [f"{it}: no comment says what it defines" for it in unexplained(tree)]
     for path in sorted(os.path.relpath(it, TOP) for pattern in DOCUMENTS for it in glob.glob(os.path.join(TOP, pattern))):
         document = Document(path, tree)
         document.names()

@@ -10,7 +10,7 @@ import subprocess
 
 TOP = os.path.dirname(os.path.dirname(os.path.abspath(__file__)))
 NUMBERS = ".ci/words.tsv"
-DOCUMENTS = ["*.md", "docs/*.md", "clients/*/README.md", "clients/*/tabd/README.md"]
+DOCUMENTS = ["*.md", "docs/*.md", "crates/*/README.md", "clients/*/README.md", "clients/*/tabd/README.md"]
 SOURCES = ["crates/**/*.rt"]
 TABLE = re.compile(r"^\| Instead of \| Write \|\n\|.*\n((?:\|.*\n)+)", re.M)
 # A fence with its block, an indented block after an empty line, and a span, which may go over the end of a line.
