@@ -9,7 +9,8 @@ repository; so is each section that is named with its document, and each crate, 
 an `impl` of that type, in a table's row that names one file in that file, and in a crate's README.md as a word of its code,
 or of tab_model's or tab_proto's); each `--option` is in the program's help, in that of `rt`, in tests/conftest.py, in the text of a
 script that the same line names, or, on the page of tabd-cli, in its sources. Each file of definitions has a comment. The frames of
-docs/PROTOCOL.md, "Bytes", are sent as printed, and are the encoding of the terms next to them. One line reports each fault; the last line is
+docs/PROTOCOL.md, "Bytes", are sent as printed, and are the encoding of the terms next to them. A line has one sentence and at most 160
+columns, and a table's cell at most 120 characters, except in tables that a program writes. One line reports each fault; the last line is
 `N passed, M failed`, and the status is 1 if one failed. It takes some seconds.
 
 No word of the table in CONTRIBUTING.md, "Write", is used more often than .ci/words.tsv allows. `--write` lowers its numbers to the current
@@ -66,6 +67,13 @@ OUTSIDE = re.compile(r"\w+://\S+|(?<![\w.*-])~?/[\w./-]+")
 ARITY = re.compile(r"\w+/\d(,\d)*")
 NAME = re.compile(r"[^\W\d]\w*(::[^\W\d]\w*)?")
 README = re.compile(r"crates/(\w+)/README\.md")
+# The longest line outside tables, the longest cell of a table, the end of a sentence in a line that goes on, and what a list's item or a
+# heading begins with.
+COLUMNS, CELL = 160, 120
+SENTENCE = re.compile(r'[.?!] +["(\[]?[A-Z]')
+LABEL = re.compile(r"[#\s]*(\d+\. |- )?")
+# A table that a program writes.
+WRITTEN = re.compile(r"^<!-- .*?^<!-- end -->", re.M | re.S)
 # `docs/PROTOCOL.md, "Events"`: a document and the beginning of a heading in it.
 HEADING = re.compile(r'(?:docs/)?(\w+\.md)[`)]?,\s"([^"]+)"')
 COMMENT = {".rt": re.compile(r"//.*"), ".antt": re.compile(r"--.*"), ".py": re.compile(r"^\s*#.*", re.M), ".erl": re.compile(r"%.*")}
@@ -185,6 +193,16 @@ class Document:
         elif not owner:
             places = {*crates, *SHARED} if crates else self.tree.words
             self.check(name in self.tree.words or any(name in self.tree.words.get(it, ()) for it in places), f"no name {name}")
+
+    def layout(self):
+        lines = WRITTEN.sub(words.blank, self.text).split("\n")
+        for number, (line, prose) in enumerate(zip(lines, words.prose_of(self.path)), 1):
+            if line.lstrip().startswith("|"):
+                cells = [cell.strip() for cell in re.split(r"(?<!\\)\|", line)]
+                self.check(max(map(len, cells)) <= CELL, f"line {number} has a cell of more than {CELL} characters")
+            elif line and prose.strip():
+                self.check(len(line) <= COLUMNS, f"line {number} has more than {COLUMNS} columns")
+                self.check(not SENTENCE.search(LABEL.sub("", prose, count=1)), f"line {number} has more than one sentence")
 
     def headings(self):
         for name, head in HEADING.findall(self.text):
@@ -338,6 +356,7 @@ def main():
         document = Document(path, tree)
         document.names()
         document.headings()
+        document.layout()
         document.options(helps, rt)
         faults += document.faults
         count += document.count
