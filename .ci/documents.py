@@ -202,7 +202,8 @@ class Document:
                 self.check(max(map(len, cells)) <= CELL, f"line {number} has a cell of more than {CELL} characters")
             elif line and prose.strip():
                 self.check(len(line) <= COLUMNS, f"line {number} has more than {COLUMNS} columns")
-                self.check(not SENTENCE.search(LABEL.sub("", prose, count=1)), f"line {number} has more than one sentence")
+                text = LABEL.sub("", SPAN.sub("X", line), count=1)
+                self.check(not SENTENCE.search(text), f"line {number} has more than one sentence")
 
     def headings(self):
         for name, head in HEADING.findall(self.text):
