@@ -8,7 +8,7 @@ Of the documents at the top, docs/*.md and the README.md of crates and clients: 
 repository; so is each section that is named with its document, and each crate, function, type and definition (`Type::function` in
 an `impl` of that type, in a table's row that names one file in that file, and in a crate's README.md as a word of its code,
 or of tab_model's or tab_proto's); each `--option` is in the program's help, in that of `rt`, in tests/conftest.py, in the text of a
-script that the same line names, or, on the page of tabd-cli, in its sources. Each file of definitions has a comment. The frames of
+script that the same line names, or, on the page of tabd-cli, in its sources. Each file of definitions has a comment, and each crate a README.md. The frames of
 docs/PROTOCOL.md, "Bytes", are sent as printed, and are the encoding of the terms next to them. A line has one sentence and at most 160
 columns, and a table's cell at most 120 characters, except in tables that a program writes. One line reports each fault; the last line is
 `N passed, M failed`, and the status is 1 if one failed. It takes some seconds.
@@ -231,6 +231,12 @@ def unexplained(tree):
     return [it for it in files if not re.search(r"^--", tree.texts[it], re.M)]
 
 
+def pageless(tree):
+    """The crates without a README.md."""
+    crates = re.findall(r"^(\w+):", read_text("crates.txt"), re.M)
+    return [it for it in crates if os.path.join("crates", it, "README.md") not in tree.files]
+
+
 def text_of(words):
     """A program's output; None if the program is not installed."""
     try:
@@ -353,6 +359,7 @@ def main():
     helps = "".join(text_of([program, *words, "--help"]) for words in ([], ["serve"], ["replay"])) + "--help --version"
     rt, faults, count = text_of(["rt", "help"]), [], 0
     faults += [f"{it}: no comment says what it defines" for it in unexplained(tree)]
+    faults += [f"{it}: the crate has no README.md" for it in pageless(tree)]
     for path in sorted(os.path.relpath(it, TOP) for pattern in DOCUMENTS for it in glob.glob(os.path.join(TOP, pattern))):
         document = Document(path, tree)
         document.names()
