@@ -8,10 +8,10 @@ Of the documents at the top, docs/*.md and the README.md of crates and clients: 
 repository; so is each section that is named with its document, and each crate, function, type and definition (`Type::function` in
 an `impl` of that type, in a table's row that names one file in that file, and in a crate's README.md as a word of its code,
 or of tab_model's or tab_proto's); each `--option` is in the program's help, in that of `rt`, in tests/conftest.py, in the text of a
-script that the same line names, or, on the page of tabd-cli, in its sources. Each file of definitions has a comment, and each crate a README.md. The frames of
-docs/PROTOCOL.md, "Bytes", are sent as printed, and are the encoding of the terms next to them. A line has one sentence and at most 160
-columns, and a table's cell at most 120 characters, except in tables that a program writes. One line reports each fault; the last line is
-`N passed, M failed`, and the status is 1 if one failed. It takes some seconds.
+script that the same line names, or, on the page of tabd-cli, in its sources. Each file of definitions has a comment, and each crate a
+README.md. The frames of docs/PROTOCOL.md, "Bytes", are sent as printed, and are the encoding of the terms next to them. A line has one
+sentence and at most 160 columns, and a table's cell at most 120 characters, except in tables that a program writes. One line reports each
+fault; the last line is `N passed, M failed`, and the status is 1 if one failed. It takes some seconds.
 
 No word of the table in CONTRIBUTING.md, "Write", is used more often than .ci/words.tsv allows. `--write` lowers its numbers to the current
 counts, and `--reset` sets them.
