@@ -12,35 +12,14 @@ a read waited, and no other figure.
 import os
 import sys
 import time
+from functools import partial
 
 HERE = os.path.dirname(os.path.abspath(__file__))
 sys.path.insert(0, os.path.join(HERE, ".."))
-from tests.lib.checks import HERE_OK, OK, same, script, side_by_side  # noqa: E402
-from tests.lib.holding import (  # noqa: E402
-    ALL_KEYS,
-    ALL_RECORDS,
-    BY_INDEX,
-    HALF,
-    INDEXED,
-    MEGABYTE,
-    WATCHED,
-    Held,
-    answers,
-    ask_long,
-    bag_record,
-    begin_peak,
-    commit_nothing,
-    dumps,
-    fill,
-    halved,
-    long_reads,
-    long_record,
-    measured,
-    size_of,
-    small_record,
-    table,
-    whole_reads,
-)
+from tests.lib.checks import OK, same, script, side_by_side  # noqa: E402
+from tests.lib import holding  # noqa: E402
+from tests.lib.holding import ALL_KEYS, ALL_RECORDS, BY_INDEX, HALF, INDEXED, MEGABYTE, Held  # noqa: E402
+from tests.lib.holding import ask_long, bag_record, fill, halved, size_of, small_record, table  # noqa: E402
 from tests.lib.wire import spell  # noqa: E402
 
 RECORDS, TRANSACTIONS, SCANS, DUMPS, READERS, ASKED = 100_000, 1_024, 64, 32, 12, 100
@@ -52,9 +31,9 @@ BAGGED, WRITES = 6_000, 899
 PATIENCE = 60
 
 
-def idle_readers(count, answer):
+def idle_readers(count, record, records, server, _):
     """So many connections that have each read all of the table, at once."""
-    size = size_of(answer)
+    size = size_of(list(map(record, range(records))))
 
     def read_all(reader):
         same("begin", reader.ask("begin")[0], "tid")
@@ -62,12 +41,8 @@ def idle_readers(count, answer):
         # An abort, since the journal keeps the replies of a commit.
         script((reader, ("abort", "read"), ("aborted", "read")))
 
-    def hold(server, _):
-        readers = [server.connect() for _ in range(count)]
-        side_by_side([(read_all, (reader,)) for reader in readers])
-        return server.kilobytes()
-
-    return hold
+    side_by_side([(read_all, (server.connect(),)) for _ in range(count)])
+    return server.kilobytes()
 
 
 def follow(mirror):
@@ -78,11 +53,9 @@ def follow(mirror):
 
 def one_shot(server, client):
     """Writes to a key of many records, told to a mirror that reads, while another reads at another key."""
-    mirror, other = server.connect(), server.connect()
+    mirror, other = holding.watcher(server), server.connect()
     for connection in (client, mirror, other):
         connection.socket.settimeout(PATIENCE)
-    script((mirror, ("subscribe", WATCHED), HERE_OK))
-    same("begin marker", mirror.event(), ("mnesia_table_begin", "t", "detailed"))
     writes = [("write", bag_record(BAGGED + number)) for number in range(WRITES)]
     waited, done = [], []
 
@@ -96,7 +69,7 @@ def one_shot(server, client):
             script((other, ("transaction", [("read", "t", 1)], 0), ("atomic", [[]])))
             waited.append(time.monotonic() - begun)
 
-    begin_peak(server)
+    holding.begin_peak(server)
     asked = (client, ("transaction", writes, 0), ("atomic", [OK] * WRITES))
     side_by_side([(read, ()), (until_done, (follow, mirror)), (until_done, (script, asked))])
     server.remark = f"peak {server.kilobytes('VmHWM')} kB; another's read waited {max(waited) * 1000:.0f} ms, beside other work"
@@ -112,66 +85,60 @@ def of_ten(number):
     return ("person", number // 10, number.to_bytes(40, "big"))
 
 
-def persons(record, count):
+def persons(record, count, server, client):
     """Rows of a table, and how many bytes each of them takes."""
-
-    def hold(server, client):
-        before = server.kilobytes()
-        fill(client, record, count, 500)
-        commit_nothing(client)
-        held = server.kilobytes()
-        server.remark = f"{(held - before) * 1024 / count:.0f} bytes a row"
-        return held
-
-    return hold
+    before = server.kilobytes()
+    fill(client, record, count, 500)
+    holding.commit_nothing(client)
+    held = server.kilobytes()
+    server.remark = f"{(held - before) * 1024 / count:.0f} bytes a row"
+    return held
 
 
-def full_journal(operation, reply):
+def full_journal(operation, reply, server, client):
     """As many one-shots as the journal has entries, of this operation as often as a transaction may have one."""
     request, size = ("transaction", [operation] * OPERATIONS, 0), size_of(("atomic", [reply] * OPERATIONS))
-
-    def hold(server, client):
-        for _ in range(TRANSACTIONS):
-            ask_long(client, request, size)
-        return server.kilobytes()
-
-    return hold
+    for _ in range(TRANSACTIONS):
+        ask_long(client, request, size)
+    return server.kilobytes()
 
 
 def of_long(size, count, hold, times):
     """A table of long records, and what holds all of them so often."""
-    record = long_record(size)
-    return table(record, count, 1 if count < 100 else 10), hold(times, [record(key) for key in range(count)])
+    record = holding.long_record(size)
+    return table(record, count, 1 if count < 100 else 10), partial(hold, times, record, count)
 
 
 def rows():
     """What, the server's further words, how the table is made, and what is held with it."""
     small, keys, records = table(small_record, RECORDS), list(range(RECORDS)), [small_record(key) for key in range(RECORDS)]
     bag = table(bag_record, BAGGED, options=[("type", "bag")])
-    yield "6 transactions of 500 reads of a record of 1 MB", [], table(long_record(MEGABYTE), 1), long_reads(6, 500)
+    yield "6 transactions of 500 reads of a record of 1 MB", [], table(holding.long_record(MEGABYTE), 1), partial(holding.long_reads, 6, 500)
     for what, request, answer, count in (("all_keys", ALL_KEYS, keys, TRANSACTIONS), ("match_object", ALL_RECORDS, records, SCANS)):
         for writes in (False, True):
-            yield f"{count} transactions of {'a write and ' * writes}{what}, {RECORDS} records", [], small, whole_reads(request, answer, count, writes)
+            hold = partial(holding.whole_reads, (request, answer), count, writes)
+            yield f"{count} transactions of {'a write and ' * writes}{what}, {RECORDS} records", [], small, hold
     halves, found = table(halved, RECORDS, options=INDEXED), [halved(key) for key in range(0, RECORDS, 2)]
     for what, request in (("match_object", HALF), ("index_read", BY_INDEX)):
-        yield f"{SCANS} transactions of {what} that finds half, {RECORDS} records", [], halves, whole_reads(request, found, SCANS)
+        hold = partial(holding.whole_reads, (request, found), SCANS, False)
+        yield f"{SCANS} transactions of {what} that finds half, {RECORDS} records", [], halves, hold
     few = table(small_record, 10)
     for what, operation, reply in (
         ("reads", ("read", "t", 1), [small_record(1)]),
         ("writes", ("write", small_record(1)), OK),
         ("match_object that find none", ("match_object", ("t", "_", "none")), []),
     ):
-        yield f"{TRANSACTIONS} one-shots of {OPERATIONS} {what}", [], few, full_journal(operation, reply)
-    yield f"a one-shot of {ASKED} all_keys, {RECORDS} records, at its peak", [], small, answers(ASKED, keys)
+        yield f"{TRANSACTIONS} one-shots of {OPERATIONS} {what}", [], few, partial(full_journal, operation, reply)
+    yield f"a one-shot of {ASKED} all_keys, {RECORDS} records, at its peak", [], small, partial(holding.answers, ASKED, keys)
     for size, count in ((100_000, 300), (1_000, 30_000)):
-        yield f"{DUMPS} dumps of 30 MB in an outbox, {count} records", [], *of_long(size, count, dumps, DUMPS)
+        yield f"{DUMPS} dumps of 30 MB in an outbox, {count} records", [], *of_long(size, count, holding.dumps, DUMPS)
     for size, count in ((500_000, 40), (100, 170_000)):
         yield f"{READERS} connections that have read 20 MB, {count} records", [], *of_long(size, count, idle_readers, READERS)
     yield f"a one-shot of {WRITES} writes to a key of {BAGGED} records, told in detail", [], bag, one_shot
     for count in (100_000, 1_000_000):
-        yield f"{count} rows of 40 bytes", ["--journal", "16"], table(person, 0), persons(person, count)
+        yield f"{count} rows of 40 bytes", ["--journal", "16"], table(person, 0), partial(persons, person, count)
     bag = table(of_ten, 0, options=[("type", "bag")])
-    yield "100000 rows of 40 bytes, ten at each key of a bag", ["--journal", "16"], bag, persons(of_ten, 100_000)
+    yield "100000 rows of 40 bytes, ten at each key of a bag", ["--journal", "16"], bag, partial(persons, of_ten, 100_000)
 
 
 def main():
@@ -180,7 +147,7 @@ def main():
     print("what | the table alone | held with it | more")
     for what, words, make, hold in rows():
         with Held(os.path.abspath(sys.argv[1]), *words) as server:
-            alone, held = measured(server, make, hold)
+            alone, held = holding.measured(server, make, hold)
         remark = f" ({server.remark})" if server.remark else ""
         print(f"{what}{remark} | {alone} | {held} | {held - alone}", flush=True)
 

@@ -14,25 +14,13 @@ import multiprocessing
 import os
 import sys
 import time
+from functools import partial
 
 HERE = os.path.dirname(os.path.abspath(__file__))
 sys.path.insert(0, os.path.join(HERE, ".."))
 from tests.lib.checks import ATOMIC, HERE_OK, OK, same, script, side_by_side  # noqa: E402
-from tests.lib.holding import (  # noqa: E402
-    ALL_KEYS,
-    ALL_RECORDS,
-    DUMP,
-    MEGABYTE,
-    NO_MORE,
-    Held,
-    ask_long,
-    fill,
-    long_reads,
-    long_record,
-    size_of,
-    small_record,
-    table,
-)
+from tests.lib.holding import ALL_KEYS, ALL_RECORDS, DUMP, MEGABYTE, NO_MORE, Held  # noqa: E402
+from tests.lib.holding import ask_long, fill, long_reads, long_record, size_of, small_record, table  # noqa: E402
 from tests.lib.wire import Connection  # noqa: E402
 
 RECORDS, BAGGED, WRITES, DUMPS, READS, FINDS, WATCHERS = 100_000, 6_000, 899, 32, 999, 99, 60
@@ -96,7 +84,7 @@ def at_once(server, client, prepare, count):
 
 
 def long_transactions(reads):
-    return lambda server, client: lambda: long_reads(6, reads)(server, client)
+    return lambda server, client: partial(long_reads, 6, reads, server, client)
 
 
 def many_dumps(server, client):

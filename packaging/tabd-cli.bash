@@ -8,7 +8,10 @@ _tabd_cli() {
     done
     COMPREPLY=()
     case "$before" in
+        --load) COMPREPLY=($(compgen -W "read write mixed" -- "$word")); return ;;
         --server) COMPREPLY=($(compgen -f -- "$word")); return ;;
+        --take) COMPREPLY=($(compgen -W "server folder" -- "$word")); return ;;
+        --type) COMPREPLY=($(compgen -W "set bag" -- "$word")); return ;;
     esac
     case "$command" in
         "") words="read all match write delete create drop info tables watch top bench dump restore keep --help --server --version" ;;

@@ -91,13 +91,13 @@ def pytest_runtest_makereport(item: pytest.Item, call: Any) -> Iterator[None]:
     report = outcome.get_result()  # type: ignore[attr-defined]
     if report.when == "call":
         item.stash[FAILED] = not report.passed
-    if report.skipped and item.config.getoption("--gate"):
+    if report.skipped and item.config.getoption("--gate") and not item.get_closest_marker("undecided"):
         report.outcome = "failed"
 
 
 @pytest.fixture(scope="session")
 def tabd(request: pytest.FixtureRequest) -> str:
-    return os.path.abspath(request.config.getoption("--tabd"))
+    return os.path.abspath(str(request.config.getoption("--tabd")))
 
 
 @pytest.fixture(scope="session")

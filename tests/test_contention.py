@@ -11,15 +11,17 @@ import resource
 import select
 import statistics
 import subprocess
+import sys
 import threading
 import time
 from typing import Any, Callable, List, Tuple
 
 import pytest
 
-from tests.lib.checks import ATOMIC, CREATE, OK, one_shot, script, side_by_side, waits, write
+from tests.lib.checks import ATOMIC, CREATE, OK, one_shot, opened, read_waits, script, side_by_side, waits, write
+from tests.lib.refusing import built
 from tests.lib.servers import Server
-from tests.lib.wire import Connection, frame
+from tests.lib.wire import Connection, Term, frame
 
 served, pytestmark = pytest.mark.served, [pytest.mark.serial, pytest.mark.tries(3)]
 
@@ -35,7 +37,9 @@ SECONDS = 2.0
 # So many connections raise one record for so many milliseconds, and most of their commits come after another connection's. If the machine
 # takes the others' processors away only one goes on, so the case has so many tries, with so many seconds between.
 TAKERS, TURNS, MOST_AGAIN = 8, 500, 0.5
-TRIES, PAUSE, LEFT_TO_OTHERS = 15, 2.0, 0.2
+TRIES, PAUSE, LEFT_TO_OTHERS = 5, 2.0, 0.2
+# So many requests of a session, after each of which it may poll.
+REQUESTS = 20
 # A table of so many keys, all of which a one-shot asks for so many times.
 KEYS, ASKED = 30_000, 50
 
@@ -52,12 +56,6 @@ def between(what: str, least: float, seconds: float, most: float) -> None:
 
 def middle(what: str, seconds: List[float], most: float) -> None:
     between(f"{what}, in the middle", 0, statistics.median(seconds), most)
-
-
-def opened(*connections: Connection) -> None:
-    """Each has a transaction, in the order of their ages."""
-    for connection in connections:
-        assert connection.ask("begin")[0] == "tid", "begin"
 
 
 def resting(holder: Connection, *others: Connection) -> None:
@@ -330,7 +328,7 @@ def test_mixed_load(clients: List[Connection]) -> None:
     script((first, CREATE, ATOMIC), (first, one_shot(write(0, 0), write(1, 0), write(2, 0)), ("atomic", [OK] * 3)))
     side_by_side([(load, given) for given in zip(clients, range(len(clients)))])
     told = first.ask(one_shot(("read", "t", 0), ("read", "t", 1), ("read", "t", 2)))[1]
-    assert told[0][0][2] == len(raised), "sum"
+    assert told[0][0][2] == len(raised) > 0, "sum"
     assert told[1][0][2] == told[2][0][2], "both"
     between("the longest", 0, longest[0], LATE)
 
@@ -338,10 +336,10 @@ def test_mixed_load(clients: List[Connection]) -> None:
 @pytest.fixture(scope="module")
 def load(tmp_path_factory: pytest.TempPathFactory) -> Any:
     """A client that loses no time, in C."""
-    built = str(tmp_path_factory.mktemp("load") / "load")
+    program = str(tmp_path_factory.mktemp("load") / "load")
     source = os.path.join(os.path.dirname(__file__), "..", "bench", "beside.c")
-    subprocess.run(["cc", "-O2", "-pthread", "-o", built, source], check=True)
-    return built
+    subprocess.run(["cc", "-O2", "-pthread", "-o", program, source], check=True)
+    return program
 
 
 def again_of(server: Server, load: Any) -> Any:
@@ -374,7 +372,32 @@ def by_others(server: Server, load: str) -> Tuple[float, float]:
     return share, (busy() - before - own) / ((time.monotonic() - began) * (os.cpu_count() or 1))
 
 
+def test_no_one_polls_while_another_waits(serve: Callable[..., Server], tmp_path: Any) -> None:
+    """A session polls for the next request for a moment, since its client may ask at once; but not while another session waits for a lock,
+    which it would take again before the other is awake."""
+    file = tmp_path / "count"
+    file.write_bytes(bytes(8))
+    env = {**os.environ, "LD_PRELOAD": built("counting", tmp_path), "COUNT": str(file)}
+    server = serve("--connections", "2", env=env)
+    older, younger = server.connect(), server.connect()
+
+    def polls(request: Term) -> int:
+        """So many reads found nothing while the younger asked for this, some times."""
+        before = file.read_bytes()
+        for _ in range(REQUESTS):
+            younger.ask(request)
+        return int.from_bytes(file.read_bytes(), sys.byteorder) - int.from_bytes(before, sys.byteorder)
+
+    read_waits(older, younger)
+    assert polls(("read", "t", 2)) == 0, "while another waits"
+    script((younger, "commit", ("atomic", 1)))
+    received_after(older, [("t", 1, "b")])
+    if not polls(one_shot()):
+        pytest.skip("the program takes no LD_PRELOAD")
+
+
 @pytest.mark.tries(1)
+@pytest.mark.undecided("test_no_one_polls_while_another_waits")
 def test_turns_at_one_record(serve: Callable[..., Server], load: str) -> None:
     """Sessions that contend for one record take turns: a session that begins its next transaction at once does not lock the record again and
     again, before the sessions that wait for it are awake. A try shows it either way only if others leave the processors free."""

@@ -7,15 +7,14 @@ import random
 import re
 import signal
 import time
-from typing import Any, Iterator, Tuple
+from typing import Any, Callable, Iterator, Tuple
 
 import pytest
 
-from tests.lib.checks import ATOMIC, CREATE, HERE_OK, LIMIT, MARK, OK, event, script, waits, watch, write
+from tests.lib.checks import ATOMIC, CREATE, HERE_OK, LIMIT, MARK, OK, at_last, event, read_waits, script, waits, watch, write
 from tests.lib.servers import Server, descriptors, forever
-from tests.lib.wire import Connection, frame
+from tests.lib.wire import frame
 
-NOT_ACCEPTED = "tabd: no connection was accepted\n"
 # Those that are run at a socket file too: what waits, breaks off, is idle, or leaves a descriptor.
 at_both = pytest.mark.parametrize("place", ["at a port", "at a file"])
 seats = pytest.mark.seats
@@ -28,12 +27,15 @@ def place() -> str:
 
 
 @pytest.fixture
-def server(request: pytest.FixtureRequest, tabd: str, tmp_path: Any, place: Any) -> Iterator[Any]:
+def server(request: pytest.FixtureRequest, tabd: str, passed: Callable[[], bool], tmp_path: Any, place: str) -> Iterator[Server]:
+    """That of the mark `seats`. After a case that passes it still runs, and has printed what `said` matches."""
     mark = request.node.get_closest_marker("seats")
     files = mark.kwargs.get("files")
     path = str(tmp_path / "socket") if place == "at a file" else None
     with forever(tabd, *mark.args, path=path, preexec_fn=descriptors(files) if files else None) as server:
         yield server
+        if passed():
+            assert re.fullmatch(mark.kwargs.get("said", ""), server.stopped()), "what it printed"
 
 
 @seats(8)
@@ -50,7 +52,6 @@ def test_the_ninth_is_refused(server: Server) -> None:
     tenth, found = server.seated()
     assert found == ("tid", 9), "the tenth"
     assert connections[0].ask("begin") == ("tid", 10), "the others"
-    server.is_stopped()
 
 
 @seats(2)
@@ -66,15 +67,6 @@ def test_a_pause(server: Server) -> None:
     used = server.used() - before
     assert used <= 0.1, f"{used:.2f} seconds of a processor in one in which no one asked"
     script((connection, ("read", "t", 1), [("t", 1, 99)]), (connection, "commit", ("atomic", 1)))
-    server.is_stopped()
-
-
-def at_last(connection: Connection, request: Any) -> Any:
-    """The reply, although a session that broke off may leave later than a restarted request backs off."""
-    for _ in range(100):
-        if (reply := connection.ask(request)) != "restart":
-            return reply
-    return "restart"
 
 
 @seats(2)
@@ -89,7 +81,6 @@ def test_tables_outlive_connections(server: Server) -> None:
     third, found = server.seated()
     assert found[0] == "tid", "the third"
     assert at_last(third, ("wread", ("t", 1))) == [("t", 1, "a")], "it left"
-    server.is_stopped()
 
 
 @seats(8)
@@ -109,26 +100,22 @@ def test_a_thousand_connections(server: Server, sanitizer: Any) -> None:
     after = server.settled(before[:2])
     assert after[:2] == before[:2], "threads and descriptors"
     assert sanitizer or after[2] - before[2] <= 1000, f"{after[2] - before[2]} kilobytes more"
-    server.is_stopped()
 
 
-@seats(64, files=20)
+# A descriptor that is free again may be too few for the next, so there may be a line for each connection that ends.
+@seats(64, files=20, said="(tabd: no connection was accepted\n){1,12}")
 @at_both
 def test_out_of_descriptors(server: Server) -> None:
     """If no connection can be accepted it prints a line, once and not at each attempt, and goes on as soon as one can."""
     connections = [server.connect() for _ in range(12)]
     time.sleep(2)
-    # A descriptor that is free again may be too few for the next, so there may be a line for each connection that ends.
     for connection in connections:
         connection.break_off()
-    last, found = server.seated()
+    _, found = server.seated()
     assert found[0] == "tid", "the last"
-    said = server.stopped().splitlines(keepends=True)
-    assert set(said) == {NOT_ACCEPTED}, "what it said"
-    assert len(said) <= len(connections), f"it said so {len(said)} times"
 
 
-@seats(3, "--idle", "1")
+@seats(3, "--idle", "1", said="tabd: session 2 was idle\n")
 @at_both
 @pytest.mark.tries(3)
 def test_idle(server: Server) -> None:
@@ -149,7 +136,6 @@ def test_idle(server: Server) -> None:
     mirror.socket.sendall(frame("begin")[5:])
     assert mirror.receive() == ("reply", ("tid", 3)), "the one without a transaction"
     script((mirror, "commit", ("atomic", 2)), (older, "begin", ("tid", 4)), (older, "commit", ("atomic", 3)))
-    server.is_stopped("tabd: session 2 was idle\n")
 
 
 @seats(3, "--idle", "60")
@@ -158,15 +144,12 @@ def test_a_server_that_is_stopped(server: Server) -> None:
     """A server that is stopped and goes on keeps its sessions and their transactions, with a time limit on their reads too: of a session from
     which a request is expected, and of one that waits for a lock."""
     older, younger, quiet = server.connect(), server.connect(), server.connect()
-    script((older, CREATE, ATOMIC), (older, "begin", ("tid", 1)), (younger, "begin", ("tid", 2)), (younger, write(1, "b"), OK))
-    older.send(("read", "t", 1))
-    waits(older)
+    read_waits(older, younger)
     for sent in (signal.SIGSTOP, signal.SIGCONT):
         server.process.send_signal(sent)
         time.sleep(0.2)
     script((younger, write(1, "c"), OK), (younger, "commit", ("atomic", 1)), (quiet, "begin", ("tid", 3)))
     assert older.receive() == ("reply", [("t", 1, "c")]), "the one that waited"
-    server.is_stopped()
 
 
 @seats(2, "--idle", "1")
@@ -182,7 +165,6 @@ def test_a_reader_that_takes_nothing(server: Server) -> None:
     assert found[0] == "tid", "another is served"
     # It prints the line once another can be served.
     assert server.log() == "tabd: session 1 was idle\n", "what it said"
-    server.is_stopped()
 
 
 @seats(2, "--log", "--outbox", "16")
@@ -206,7 +188,6 @@ def test_a_log(server: Server) -> None:
     assert server.log() == "tabd: session 2 has ended\n", "an end"
     reader.close()
     assert server.log() == "tabd: session 1 has ended\n", "another"
-    server.is_stopped()
 
 
 @seats(2, "--slow", "1")
@@ -229,17 +210,13 @@ def test_slow_transactions(server: Server) -> None:
 def test_broken_off_during_a_wait(server: Server) -> None:
     """A client that breaks off while it waits leaves at once, also if it has sent a further request, and its locks are released."""
     older, younger, third = server.connect(), server.connect(), server.connect()
-    script((older, CREATE, ATOMIC), (older, "begin", ("tid", 1)), (older, write(2, "a"), OK))
-    script((younger, "begin", ("tid", 2)), (younger, write(1, "b"), OK))
-    older.send(("read", "t", 1))
-    waits(older)
+    read_waits(older, younger, (write(2, "a"), OK))
     older.send(("read", "t", 3))
     waits(older)
     older.break_off()
     script((third, "begin", ("tid", 3)))
     assert at_last(third, ("wread", ("t", 2))) == [], "its lock is released"
     script((younger, "commit", ("atomic", 1)))
-    server.is_stopped()
 
 
 @seats(2)
@@ -247,16 +224,13 @@ def test_broken_off_during_a_wait(server: Server) -> None:
 def test_half_closed_during_a_wait(server: Server) -> None:
     """A client that half-closes while it waits, after a further request, has not broken off: it gets both replies."""
     older, younger = server.connect(), server.connect()
-    script((older, CREATE, ATOMIC), (older, "begin", ("tid", 1)), (younger, "begin", ("tid", 2)), (younger, write(1, "b"), OK))
-    older.send(("read", "t", 1))
-    waits(older)
+    read_waits(older, younger)
     older.send(("read", "t", 3))
     older.half_close()
     waits(older)
     script((younger, "commit", ("atomic", 1)))
     assert [older.receive()[1] for _ in range(2)] == [[("t", 1, "b")], []], "the replies"
     assert older.stream.read() == b"", "its end"
-    server.is_stopped()
 
 
 ABORT = ("abort", "no")
@@ -266,10 +240,7 @@ ABORTED = ("aborted", "no")
 def held(server: Server) -> Tuple[Any, ...]:
     """An older session with two levels, whose read waits for a younger's write, and the younger."""
     older, younger = server.connect(), server.connect()
-    script((older, CREATE, ATOMIC), (older, "begin", ("tid", 1)), (older, "begin", ("tid", 1)))
-    script((younger, "begin", ("tid", 2)), (younger, write(1, "b"), OK))
-    older.send(("read", "t", 1))
-    waits(older)
+    read_waits(older, younger, ("begin", ("tid", 1)))
     return older, younger
 
 
@@ -287,7 +258,6 @@ def test_an_abort_ends_a_wait(server: Server) -> None:
         time.sleep(0.01)
     assert older.receive() == ("reply", ABORTED), "in pieces"
     script((older, "commit", ("error", "no_transaction")), (younger, write(2, "c"), OK), (younger, "commit", ("atomic", 1)))
-    server.is_stopped()
 
 
 @seats(2, "--abort-waits")
@@ -302,7 +272,6 @@ def test_an_abort_in_the_same_piece(server: Server) -> None:
     older.send(("read", "t", 2), ABORT)
     assert [older.receive()[1] for _ in range(2)] == [[], ABORTED], "the replies"
     script((younger, "commit", ("atomic", 1)))
-    server.is_stopped()
 
 
 @seats(2, "--abort-waits")
@@ -313,7 +282,6 @@ def test_others_are_answered_after_a_wait(server: Server) -> None:
     waits(older)
     script((younger, "commit", ("atomic", 1)))
     assert [older.receive()[1] for _ in range(3)] == [[("t", 1, "b")], [], ABORTED], "the replies"
-    server.is_stopped()
 
 
 @seats(2)
@@ -324,7 +292,6 @@ def test_an_abort_is_answered_after_a_wait(server: Server) -> None:
     waits(older)
     script((younger, "commit", ("atomic", 1)))
     assert [older.receive()[1] for _ in range(2)] == [[("t", 1, "b")], ABORTED], "the replies"
-    server.is_stopped()
 
 
 @seats(3, "--abort-waits")
@@ -339,7 +306,6 @@ def test_an_abort_ends_a_one_shot(server: Server) -> None:
     one_shot.send(ABORT)
     assert [one_shot.receive()[1] for _ in range(2)] == [("aborted", "nowait"), ("error", "no_transaction")], "the replies"
     script((younger, "commit", ("atomic", 2)), (first, "begin", ("tid", 4)), (first, ("read", "t", 1), [("t", 1, "a")]))
-    server.is_stopped()
 
 
 @seats(2, "--abort-waits")
@@ -349,16 +315,18 @@ def test_an_abort_at_a_commit(server: Server) -> None:
     chance = random.Random(1)
     older, younger = server.connect(), server.connect()
     script((older, CREATE, ATOMIC))
+    given_up = set()
     for turn in range(200):
         script((older, "begin", ("tid", 2 * turn + 1)), (younger, "begin", ("tid", 2 * turn + 2)), (younger, write(1, turn), OK))
         older.send(("read", "t", 1))
         # After the first sleep, in which an abort is not noticed.
         time.sleep(0.03)
-        younger.send("commit")
-        time.sleep(chance.random() * 0.0005)
-        older.send(("abort", turn))
+        for connection, request in chance.sample([(younger, "commit"), (older, ("abort", turn))], 2):
+            connection.send(request)
+            time.sleep(chance.random() * 0.0005)
         found = older.receive()[1]
+        given_up.add(found == ("aborted", turn))
         if found != ("aborted", turn):
             assert (found, older.receive()[1]) == ([("t", 1, turn)], ("aborted", turn)), "the replies"
         assert younger.receive()[1] == ("atomic", turn + 1), "the commit"
-    server.is_stopped()
+    assert given_up == {True, False}, "only one of the two was seen"

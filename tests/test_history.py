@@ -5,6 +5,7 @@ A round that fails leaves its record, which `python3 -m tests.judge FILE` judges
 between in some shorter rounds, and has to be found.
 """
 
+import contextlib
 import os
 import subprocess
 import sys
@@ -17,7 +18,7 @@ from tests.lib.rounds import Rounds
 from tests.lib.standin import WRONG, DropsAnEvent, Wrong
 
 TOP = os.path.dirname(os.path.dirname(os.path.abspath(__file__)))
-ROUND, TRIES = 4.0, 3
+ROUND = 4.0
 # Of a wrong server the rounds are longer and longer: if the machine does much else, little happens in one.
 ROUNDS = [1.2, 4.0, 8.0]
 
@@ -35,26 +36,20 @@ def pytest_generate_tests(metafunc: pytest.Metafunc) -> None:
 
 @pytest.mark.serial
 def test_round(rounds: Rounds, seed: int) -> None:
-    """One whose recorders both missed something shows nothing, and is played again; three in a row are a fault."""
-    for _ in range(TRIES):
-        try:
-            faults = rounds.faults(seed, ROUND)
-        except Undecided:
-            continue
-        assert not faults
-        return
-    pytest.fail("no recorder got all events, three times")
+    assert not rounds.decided(seed, ROUND)
+
+
+def before(wrong: Type[Wrong]) -> Callable[[Any], int]:
+    """Starts a stand-in of a server; the port of the stand-in."""
+    return lambda port: int(wrong(port).listener.getsockname()[1])
 
 
 def found(rounds: Rounds, wrong: Type[Wrong], lengths: List[float]) -> List[str]:
     """The faults of the first of some rounds that has one."""
-    between = lambda port: wrong(port).listener.getsockname()[1]
     for seed, seconds in enumerate(lengths, 1):
-        try:
-            if faults := rounds.faults(seed, seconds, between):
+        with contextlib.suppress(Undecided):
+            if faults := rounds.faults(seed, seconds, before(wrong)):
                 return faults
-        except Undecided:
-            continue
     return []
 
 
@@ -78,4 +73,4 @@ def test_a_wrong_server_is_found(rounds: Rounds, wrong: Type[Wrong]) -> None:
 @pytest.mark.tries(3)
 def test_a_server_between_is_not_found(rounds: Rounds) -> None:
     """One that changes nothing."""
-    assert not found(rounds, Wrong, ROUNDS[:1])
+    assert not rounds.decided(1, ROUNDS[0], before(Wrong))

@@ -13,8 +13,7 @@ from typing import Any, Callable, Dict, Iterator, List, Tuple
 
 import pytest
 
-from tests.lib.checks import ATOMIC, CREATE, HERE_OK, OK, same, watch, write
-from tests.lib.judging import Undecided
+from tests.lib.checks import ATOMIC, CREATE, HERE_OK, OK, opened, same, watch, write
 from tests.lib.refusing import built
 from tests.lib.rounds import Rounds
 from tests.lib.servers import Server
@@ -88,11 +87,6 @@ def pulse(seed: int) -> Iterator[Pulse]:
     pulse.join()
 
 
-def opened(connections: List[Connection]) -> None:
-    for connection in connections:
-        assert connection.ask("begin")[0] == "tid"
-
-
 def replies(connections: List[Connection]) -> Tuple[List[Term], float]:
     """One to each, and the longest time in which none came."""
     found: Dict[Connection, Term] = {}
@@ -112,8 +106,7 @@ def commit(connections: List[Connection]) -> None:
 
 def turn(older: List[Connection], younger: List[Connection], value: int, chance: random.Random) -> float:
     """Each of the older waits for one of the younger, which all commit at once; the longest silence before the last has its lock."""
-    opened(older)
-    opened(younger)
+    opened(*older, *younger)
     for key, connection in enumerate(younger):
         same("a write", connection.ask(write(key, value)), OK)
     for key, connection in enumerate(older):
@@ -138,21 +131,21 @@ def test_who_waits_is_woken(serve: Callable[..., Server], library: str, delayed:
     watchers = [server.connect() for _ in range(WATCHERS)]
     for watcher in watchers:
         same("a subscription", watcher.ask(watch()), HERE_OK)
-    chance, late = random.Random(seed), []
+    chance, late, undecided = random.Random(seed), [], 0
     for value in range(TURNS):
         pulse.taken()
         silence = turn(connections[:WAITS], connections[WAITS:], value, chance)
         if silence >= SILENCE and pulse.taken() < LATE:
             late.append((value, round(silence, 3)))
+        elif silence >= SILENCE:
+            undecided += 1
         for watcher in watchers:
             assert all(watcher.event() for _ in range(WAITS))
     assert not late, f"seed {seed}: turns in which a session slept until it looked by itself, and the seconds of silence"
+    if undecided == TURNS:
+        pytest.skip("the machine lets no thread go on in time")
 
 
 def test_a_round(serve: Callable[..., Server], tmp_path: Any, delayed: Dict[str, Any], seed: int) -> None:
-    """Judged as one of test_history.py. If no recorder got all events it shows nothing."""
-    try:
-        faults = Rounds(serve, tmp_path, **delayed).faults(seed, ROUND)
-    except Undecided:
-        return
-    assert not faults
+    """Judged as one of test_history.py."""
+    assert not Rounds(serve, tmp_path, **delayed).decided(seed, ROUND)

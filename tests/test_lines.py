@@ -23,6 +23,7 @@ LITTLE = 64 * 1_048_576
 # The same for a process that reads a map as long as a payload may be: the pairs, with room for as many again, take 16 MB.
 FOR_A_MAP = 48 * 1_048_576
 ASKED, CLOSED = frame((1, "join")), DEVICE + b"tabd: a standard stream is closed\n"
+SERVE = ["serve", "--port", "0", "--connections", "1"]
 
 # The messages about required options, and the usage of `serve`.
 MISSING, COUNT = b"error: the following required arguments were not provided:\n", b"  --connections <COUNT>\n"
@@ -230,9 +231,11 @@ def full() -> Iterator[Any]:
         yield file
 
 
-def test_a_full_output(tabd: str, full: Any) -> None:
-    status, _, err = run(tabd, ["replay"], input=ASKED, stdout=full)
-    assert (status, err) == (1, DEVICE)
+@pytest.mark.parametrize("words, reason", [(["replay"], b""), (SERVE, b"tabd: standard output can't be written\n")], ids=["replay", "serve"])
+def test_a_full_output(tabd: str, full: Any, words: List[str], reason: bytes) -> None:
+    """A server can't say where it listens."""
+    status, _, err = run(tabd, words, input=ASKED, stdout=full)
+    assert (status, err) == (1, DEVICE + reason)
 
 
 def test_an_output_that_no_one_reads(tabd: str) -> None:
@@ -251,10 +254,17 @@ def test_a_folder_as_input(tabd: str) -> None:
 
 
 @pytest.mark.parametrize("file, wanted", [(0, (1, b"", DEVICE)), (1, (1, b"", DEVICE)), (2, (3, frames((1, "ok")), b""))])
-def test_a_closed_stream(tabd: str, file: Any, wanted: Any) -> None:
+def test_a_closed_stream(tabd: str, file: int, wanted: Any) -> None:
     """A standard stream is closed; errors can't be written, which changes no status."""
     found = run(tabd, ["replay"], input=ASKED + b"\0" * (file == 2), stdout=subprocess.PIPE, preexec_fn=lambda: os.close(file))
     assert found == wanted
+
+
+@pytest.mark.parametrize("file, reason", [(0, CLOSED), (1, CLOSED), (2, b"")])
+def test_a_server_with_a_closed_stream(tabd: str, file: int, reason: bytes) -> None:
+    """Its number is one that a client's socket would get."""
+    found = run(tabd, SERVE, stdin=subprocess.DEVNULL, stdout=subprocess.PIPE, preexec_fn=lambda: os.close(file))
+    assert found == (1, b"", reason)
 
 
 def test_errors_that_are_full(tabd: str, full: Any) -> None:
@@ -268,18 +278,3 @@ def test_a_port_that_is_taken(tabd: str, more: List[str]) -> None:
         words = ["serve", "--port", str(taken.getsockname()[1]), "--connections", "1", *more]
         wanted = (1, b"", DEVICE + b"tabd: Address already in use (os error 98)\n")
         assert run(tabd, words, stdin=subprocess.DEVNULL, stdout=subprocess.PIPE) == wanted
-
-
-def test_a_server_with_a_full_output(tabd: str, full: Any) -> None:
-    """It can't say where it listens."""
-    words = ["serve", "--port", "0", "--connections", "1"]
-    status, _, err = run(tabd, words, stdin=subprocess.DEVNULL, stdout=full)
-    assert (status, err) == (1, DEVICE + b"tabd: standard output can't be written\n")
-
-
-@pytest.mark.parametrize("file, reason", [(0, CLOSED), (1, CLOSED), (2, b"")])
-def test_a_server_with_a_closed_stream(tabd: str, file: Any, reason: Any) -> None:
-    """Its number is one that a client's socket would get."""
-    words = ["serve", "--port", "0", "--connections", "1"]
-    found = run(tabd, words, stdin=subprocess.DEVNULL, stdout=subprocess.PIPE, preexec_fn=lambda: os.close(file))
-    assert found == (1, b"", reason)

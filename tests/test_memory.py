@@ -6,50 +6,22 @@ it. Each case has a server of its own.
 """
 
 import resource
-from typing import Any, Callable, Iterator
+from functools import partial
+from typing import Callable, Iterator
 
 import pytest
 
+from tests.lib import holding
 from tests.lib.checks import ATOMIC, CREATE, END, HERE_OK, OK, holds, script, write
-from tests.lib.holding import (
-    ALL_KEYS,
-    ALL_RECORDS,
-    BY_INDEX,
-    DUMP,
-    HALF,
-    INDEXED,
-    MEGABYTE,
-    NO_MORE,
-    Held,
-    answers,
-    ask_long,
-    bag_record,
-    bag_writes,
-    begin_mark,
-    commit_nothing,
-    dumps,
-    halved,
-    long_reads,
-    long_record,
-    measured,
-    of_ten,
-    old_records,
-    queue,
-    rows,
-    short_reads,
-    size_of,
-    small_record,
-    table,
-    transaction,
-    whole_reads,
-)
-from tests.lib.wire import Connection
+from tests.lib.holding import ALL_KEYS, ALL_RECORDS, DUMP, INDEXED, MEGABYTE, NO_MORE, Held, table
+from tests.lib.servers import Server
+from tests.lib.wire import Connection, Term
 
 pytestmark = pytest.mark.serial
 
 
 @pytest.fixture
-def held(tabd: str, request: pytest.FixtureRequest, passed: Callable[[], bool], plain: None) -> Iterator[Any]:
+def held(tabd: str, request: pytest.FixtureRequest, passed: Callable[[], bool], plain: None) -> Iterator[Held]:
     """A server with the options of the mark `words`. After a case that passes it has printed nothing."""
     mark = request.node.get_closest_marker("words")
     with Held(tabd, *(mark.args if mark else ())) as server:
@@ -58,38 +30,40 @@ def held(tabd: str, request: pytest.FixtureRequest, passed: Callable[[], bool], 
             server.is_stopped()
 
 
-KEYS, RECORDS = list(range(20_000)), list(map(small_record, range(20_000)))
-EVEN = list(map(halved, range(0, 20_000, 2)))
+KEYS, RECORDS = list(range(20_000)), list(map(holding.small_record, range(20_000)))
+EVEN = list(map(holding.halved, range(0, 20_000, 2)))
+SMALL, HALVED = table(holding.small_record, 20_000), table(holding.halved, 20_000, options=INDEXED)
+BAG = [("type", "bag")]
+OF_TEN, OF_ONE_KEY = table(holding.of_ten, 1, options=BAG), table(holding.bag_record, 3_000, options=BAG)
 FULL = pytest.mark.words("--journal", "16")
 # Thirty megabytes.
-LONG, MANY = long_record(100_000), 300
-# A bound in kilobytes, and a table with a client's requests, made when they are needed. Wrong servers use more: one that copies its replies more
+LONG, MANY = holding.long_record(100_000), 300
+# A bound in kilobytes, a table, and a client's requests. Wrong servers use more: one that copies its replies more
 # than 150,000 in each case, one that builds an item before it sends it some 30,000 in each that is on its way, one whose journal copies its rows some
 # 70,000, one whose maps reserve room for entries that don't come some 38,000 in "rows of a server", and one whose journal limits
 # only entries some 225,000 in "operations in the journal".
 CASES = [
-    pytest.param(30_000, lambda: (table(long_record(MEGABYTE), 1), long_reads(1, 200)), id="reads of a long record"),
-    pytest.param(30_000, lambda: (table(small_record, 20_000), whole_reads(ALL_KEYS, KEYS, 300)), id="all keys"),
-    pytest.param(30_000, lambda: (table(small_record, 20_000), whole_reads(ALL_KEYS, KEYS, 300, True)), id="all keys after a write"),
-    pytest.param(30_000, lambda: (table(small_record, 20_000), whole_reads(ALL_RECORDS, RECORDS, 100)), id="match_object of all"),
-    pytest.param(30_000, lambda: (table(halved, 20_000, options=INDEXED), whole_reads(HALF, EVEN, 300)), id="match_object of half"),
-    pytest.param(30_000, lambda: (table(halved, 20_000, options=INDEXED), whole_reads(BY_INDEX, EVEN, 300)), id="index_read of half"),
-    pytest.param(160_000, lambda: (table(small_record, 10), short_reads(250)), id="operations in the journal"),
-    pytest.param(30_000, lambda: (table(small_record, 20_000), answers(300, KEYS)), id="a one-shot's answers"),
-    pytest.param(34_000, lambda: (table(small_record, 1), rows(small_record, 100_000)), id="rows of a server", marks=FULL),
-    pytest.param(48_000, lambda: (table(of_ten, 1, options=[("type", "bag")]), rows(of_ten, 100_000)), id="rows of a bag", marks=FULL),
-    pytest.param(30_000, lambda: (table(long_record(100_000), 50), dumps(32, list(map(LONG, range(50))))), id="dumps in an outbox"),
-    pytest.param(8_000, lambda: (table(LONG, MANY), dumps(1, list(map(LONG, range(MANY))))), id="a dump on its way"),
-    pytest.param(8_000, lambda: (table(LONG, MANY), old_records(LONG, MANY)), id="old records on their way"),
-    pytest.param(30_000, lambda: (table(bag_record, 3_000, options=[("type", "bag")]), bag_writes(3_000, 100)), id="writes to a bag's key"),
+    pytest.param(30_000, table(holding.long_record(MEGABYTE), 1), partial(holding.long_reads, 1, 200), id="reads of a long record"),
+    pytest.param(30_000, SMALL, partial(holding.whole_reads, (ALL_KEYS, KEYS), 300, False), id="all keys"),
+    pytest.param(30_000, SMALL, partial(holding.whole_reads, (ALL_KEYS, KEYS), 300, True), id="all keys after a write"),
+    pytest.param(30_000, SMALL, partial(holding.whole_reads, (ALL_RECORDS, RECORDS), 100, False), id="match_object of all"),
+    pytest.param(30_000, HALVED, partial(holding.whole_reads, (holding.HALF, EVEN), 300, False), id="match_object of half"),
+    pytest.param(30_000, HALVED, partial(holding.whole_reads, (holding.BY_INDEX, EVEN), 300, False), id="index_read of half"),
+    pytest.param(160_000, table(holding.small_record, 10), partial(holding.short_reads, 250), id="operations in the journal"),
+    pytest.param(30_000, SMALL, partial(holding.answers, 300, KEYS), id="a one-shot's answers"),
+    pytest.param(34_000, table(holding.small_record, 1), partial(holding.rows, holding.small_record, 100_000), id="rows of a server", marks=FULL),
+    pytest.param(48_000, OF_TEN, partial(holding.rows, holding.of_ten, 100_000), id="rows of a bag", marks=FULL),
+    pytest.param(30_000, table(LONG, 50), partial(holding.dumps, 32, LONG, 50), id="dumps in an outbox"),
+    pytest.param(8_000, table(LONG, MANY), partial(holding.dumps, 1, LONG, MANY), id="a dump on its way"),
+    pytest.param(8_000, table(LONG, MANY), partial(holding.old_records, LONG, MANY), id="old records on their way"),
+    pytest.param(30_000, OF_ONE_KEY, partial(holding.bag_writes, 3_000, 100), id="writes to a bag's key"),
 ]
 
 
-@pytest.mark.parametrize("bound, case", CASES)
-def test_holds(held: Any, bound: Any, case: Any) -> None:
+@pytest.mark.parametrize("bound, make, hold", CASES)
+def test_holds(held: Held, bound: int, make: Callable[[Connection], None], hold: Callable[[Server, Connection], int]) -> None:
     """At most so many kilobytes in addition to the table."""
-    make, hold = case()
-    alone, all_of = measured(held, make, hold)
+    alone, all_of = holding.measured(held, make, hold)
     assert all_of - alone <= bound, "kilobytes"
 
 
@@ -98,7 +72,7 @@ QUEUED = 16
 ROUNDS, FIRST_ROUNDS, GROWTH = 40, 10, 8_000
 
 
-def test_the_last_lets_go(held: Any) -> None:
+def test_the_last_lets_go(held: Held) -> None:
     """What a table, the journal and an outbox hold is given back with the last of them, whichever of the two that is."""
     client, reader, mirror = (held.connect() for _ in range(3))
     script((client, CREATE, ATOMIC))
@@ -110,25 +84,25 @@ def test_the_last_lets_go(held: Any) -> None:
     assert growth <= GROWTH, f"{growth} kB more than after {FIRST_ROUNDS} rounds, {GROWTH} at most"
 
 
-def one_round(client: Connection, reader: Connection, mirror: Any, record: Any, outbox_first: Any) -> None:
+def one_round(client: Connection, reader: Connection, mirror: Connection, record: Term, outbox_first: int) -> None:
     """A record is written, read, dumped, and sent as the old record of an event; then it is deleted."""
     read = ("read", "t", 1)
     script((client, ("transaction", [("write", record)], 0), ("atomic", [OK])))
-    transaction(reader, [read] * 10, size_of([record]))
-    ask_long(reader, ("transaction", [read, ALL_RECORDS], 0), size_of(("atomic", [[record]] * 2)))
+    holding.transaction(reader, [read] * 10, holding.size_of([record]))
+    holding.ask_long(reader, ("transaction", [read, ALL_RECORDS], 0), holding.size_of(("atomic", [[record]] * 2)))
     # The last subscription goes on.
-    queue(mirror, client, ([DUMP, NO_MORE] * QUEUED)[:-1])
+    holding.queue(mirror, client, ([DUMP, NO_MORE] * QUEUED)[:-1])
     script((client, ("transaction", [write(1, "short")], 0), ("atomic", [OK])))
     if outbox_first:
         empty_outbox(mirror, record)
-    commit_nothing(client)
+    holding.commit_nothing(client)
     if not outbox_first:
         empty_outbox(mirror, record)
 
 
-def empty_outbox(mirror: Any, record: Any) -> None:
+def empty_outbox(mirror: Connection, record: Term) -> None:
     told = [mirror.receive() for _ in range(4 * QUEUED)]
-    assert told.count(begin_mark([record])) == QUEUED, "dumps"
+    assert told.count(holding.begin_mark([record])) == QUEUED, "dumps"
     holds("old records", [term[1][3] for term in told if term[0] == "mnesia_table_event"] == [[record]])
     script((mirror, NO_MORE, HERE_OK))
     assert mirror.event() == END, "end marker"
@@ -138,7 +112,7 @@ def empty_outbox(mirror: Any, record: Any) -> None:
 ROOM = 60_000_000
 
 
-def writes_until_refused(client: Connection) -> Any:
+def writes_until_refused(client: Connection) -> int:
     """Of a megabyte each, in the transaction that is open: how many are made."""
     for key in range(1, 1_000):
         reply = client.ask(("write", ("t", key, bytes(MEGABYTE))))
@@ -148,7 +122,7 @@ def writes_until_refused(client: Connection) -> Any:
     raise AssertionError("no write was refused")
 
 
-def test_no_more_memory(held: Any) -> None:
+def test_no_more_memory(held: Held) -> None:
     """A write without memory is refused. The abort of its transaction frees its memory: others are served, and nothing has
     changed. With more memory the write is done."""
     client, other = held.connect(), held.connect()

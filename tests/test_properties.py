@@ -66,9 +66,27 @@ def test_a_term_comes_back(replay: Replay, term: Term) -> None:
     assert written(replay, spell(term)) == spell(term)
 
 
-@given(data=st.data(), term=terms())
-def test_other_encodings_are_read(replay: Replay, data: st.DataObject, term: Term) -> None:
-    assert written(replay, otherwise(data.draw, term)) == spell(term)
+@st.composite
+def encoded(draw: Any) -> Tuple[Term, bytes]:
+    """A term, and an encoding of it."""
+    term = draw(terms())
+    return term, otherwise(draw, term)
+
+
+@given(given=encoded())
+def test_other_encodings_are_read(replay: Replay, given: Any) -> None:
+    term, encoding = given
+    assert written(replay, encoding) == spell(term)
+
+
+def test_a_planted_writer_is_found(replay: Replay) -> None:
+    """It writes a term as it has read it: the least that is written otherwise is the integer 0, of two bytes and a sign."""
+
+    def check(given: Any) -> None:
+        assert written(replay, given[1]) == given[1]
+
+    term, encoding = least(encoded(), check)
+    assert term in (0, "") and encoding != spell(term)
 
 
 def test_a_planted_map_is_found(replay: Replay) -> None:
@@ -239,6 +257,13 @@ def test_a_planted_outbox_is_found(replay: Replay, model: Callable[[int], Book],
 @given(asked=ANY_STEPS)
 def test_all_together(replay: Replay, asked: List[Step]) -> None:
     check_steps(replay, 3, asked)
+
+
+def test_a_planted_type_is_found(replay: Replay) -> None:
+    def check(asked: List[Step]) -> None:
+        check_steps(replay, 3, asked, planted.CallsABagASet)
+
+    assert least(ANY_STEPS, check) == [(0, ("table_info", "b", "type"))]
 
 
 # The splitter: frames that come in any pieces.

@@ -7,12 +7,13 @@ frame itself, after the replies to all earlier frames. A one-shot uses up an age
 after it: it left no level, no lock, no request and no change. On a connection each larger allocation is refused, so that there is no memory
 for a long frame: the reply says so, and the session goes on. No contract ties a reply to refused memory, so only these tests show it.
 With `--wrong` the program is each of a few wrong ones, which end by themselves if they are refused memory, and each has to be found in
-each stream.
+each stream; and one that leaves something after a one-shot of a stream.
 """
 
 import collections
 import itertools
 import time
+from functools import partial
 from typing import Any, Callable, Counter, List
 
 import pytest
@@ -22,7 +23,7 @@ from tests.lib.one_shots import ONE_SHOTS, PROBED
 from tests.lib.refusing import NO_MEMORY, RefusedReplay, built, is_no_memory
 from tests.lib.servers import Server
 from tests.lib.streams import streams
-from tests.lib.wire import frame
+from tests.lib.wire import frame, term_of
 
 # Streams of which every frame is asked with a thousand before it, and those that are no whole frames.
 LEFT_OUT = {"limit operations", "child count", "one shot operations", "sessions and tables", "damage cut", "damage too long"}
@@ -37,6 +38,14 @@ WRONG = [
     pytest.param({"ENDS": str(OF_A_FRAME + 1), "WRONG": "0"}, id="it ends if a step is refused memory, and prints nothing"),
 ]
 LINE = b"tabd: no memory\n"
+# What a wrong program leaves after a one-shot that was refused memory: more requests of its session, with a table.
+LEAVES = [
+    pytest.param(lambda table: ["begin"], id="it leaves a level"),
+    pytest.param(lambda table: [("transaction", [("write", (table, 1, "left"))], 0)], id="it leaves a change"),
+    pytest.param(lambda table: ["begin", ("abort", 0)] * 2, id="it uses up more ages"),
+]
+# A one-shot with these replies has made no step.
+NOT_BEGUN = [("error", "in_transaction"), ("error", "waiting"), ("error", "badsession")]
 
 
 class OneShot:
@@ -51,8 +60,74 @@ class OneShot:
         self.told = [frame((session, told)) for session, _, told in steps]
 
 
+class OneShotOfAStream:
+    """A one-shot of a stream, with the requests before it and after it, and a probe. The probe shows whether its session has a level, whether
+    a lock is owned or awaited in each table, the records and the next age."""
+
+    def __init__(self, stream: Any, place: int) -> None:
+        self.name, self.words, self.place = f"{stream.name}, request {place + 1}", stream.words, place
+        self.given, self.told = stream.given, stream.told
+        self.session, self.request = term_of(self.given[place])
+        self.reply = term_of(self.told[place])[1]
+        asked = [term_of(given)[1] for given in self.given[:place]]
+        self.tables = sorted({one[1] for one in asked if one[0] == "create_table"})
+        indexes = [(one, table, "val") for table in self.tables for one in ("add_table_index", "del_table_index")]
+        self.probe = ["commit", *indexes, "begin", *(("match_object", (table, "_", "_")) for table in self.tables), ("abort", "probe")]
+
+    def probed(self, run: Any) -> Any:
+        """The replies to the probe, and the age that it begins with."""
+        told = [term_of(run.ask(frame((self.session, asked))))[1] for asked in self.probe]
+        (age,) = [reply[1] for reply in told if reply[0:1] == ("tid",)]
+        return [reply for reply in told if reply != ("tid", age)], age
+
+    def measure(self, replay: Any) -> None:
+        """How many allocations the one-shot makes, and what a probe in its place is answered, if nothing is refused."""
+        with replay(self.words, 0) as run:
+            same(run, self.given, self.told)
+            where, status, err = run.ended()
+        assert (status, err) == (0, b""), "nothing refused"
+        self.count = dict(zip(where[::2], where[1::2]))[self.place + 1]
+        if self.reply not in NOT_BEGUN:
+            with replay(self.words, 0) as run:
+                same(run, self.given[: self.place], self.told)
+                self.shown, self.age = self.probed(run)
+
+    def ages_used(self, run: Any) -> int:
+        """So many ages more than in the stream are used up after the probe, which shows nothing of the one-shot else."""
+        if self.reply in NOT_BEGUN:
+            return 0
+        shown, age = self.probed(run)
+        assert shown == self.shown, f"the probe shows {shown}, and before the one-shot {self.shown}"
+        assert age - self.age in (0, 1), f"it used up {age - self.age} ages"
+        return age - self.age + 1
+
+
+def same(run: Any, given: Any, told: Any) -> None:
+    for asked, wanted in zip(given, told):
+        assert run.ask(asked) == wanted, f"frame {run.answered}"
+
+
+def shifted(term: Any, last: int, by: int) -> Any:
+    """The term with each age after the last one so much greater."""
+    if isinstance(term, list):
+        return [shifted(one, last, by) for one in term]
+    if not isinstance(term, tuple):
+        return term
+    if term[:1] == ("tid",) and len(term) == 2 and term[1] > last:
+        return ("tid", term[1] + by)
+    return tuple(shifted(one, last, by) for one in term)
+
+
 ROWS = [stream for stream in streams() if stream.name not in LEFT_OUT and stream.given and b"\x77\x0btransaction" not in stream.all]
 SHOTS = list(itertools.starmap(OneShot, ONE_SHOTS))
+IN_STREAMS = [
+    OneShotOfAStream(stream, place)
+    for stream in streams()
+    if stream.name not in LEFT_OUT
+    for place, given in enumerate(stream.given)
+    if b"\x77\x0btransaction" in given
+]
+BEGUN = [case for case in IN_STREAMS if case.reply not in NOT_BEGUN]
 
 
 @pytest.fixture(scope="session")
@@ -63,7 +138,7 @@ def library(tmp_path_factory: pytest.TempPathFactory) -> Any:
 @pytest.fixture(scope="session")
 def replay(tabd: str, library: str) -> Any:
     """Starts a replay with some options whose nth allocation is refused."""
-    start = lambda words, nth, *more, **wrong: RefusedReplay(tabd, library, words, nth, *more, **wrong)
+    start = partial(RefusedReplay, tabd, library)
     with start(["replay"], 1) as run:
         run.ask(frame((1, "join")))
         if not run.ended()[0]:
@@ -132,6 +207,37 @@ def probe(run: Any, case: Any) -> None:
         assert told == frame((session, wanted)), f"the reply to {asked} after it is {told}, wanted {wanted}"
 
 
+def in_stream_end(run: Any, case: Any, left: Any = ()) -> Any:
+    """How the run of a stream ended, if memory was refused only to its one-shot. A wrong program leaves something after it."""
+    same(run, case.given[: case.place], case.told)
+    told, used = run.ask(case.given[case.place]), 0
+    if told is not None and is_no_memory(told, case.told[case.place]):
+        for request in left:
+            run.ask(frame((case.session, request)))
+        run.refused, used = 1, case.ages_used(run)
+        told = run.ask(case.given[case.place])
+    assert told in (None, case.told[case.place]), f"replied {told}, wanted {case.reply}"
+    if told is not None:
+        rest = [frame(shifted(term_of(reply), case.age - 1, used)) if used else reply for reply in case.told[case.place + 1 :]]
+        same(run, case.given[case.place + 1 :], rest)
+    return end_of(run, case, told is not None)
+
+
+def faults_in_stream(replay: Any, case: Any, left: Any = (), **wrong: Any) -> List[str]:
+    """The faults, for each allocation of the one-shot in turn; prints how often the runs ended in each way."""
+    ends: Counter[str] = collections.Counter()
+    faults: List[str] = []
+    case.measure(replay)
+    for nth in range(1, case.count + 1):
+        try:
+            with replay(case.words, nth, case.place + 1, **wrong) as run:
+                ends[in_stream_end(run, case, left)] += 1
+        except AssertionError as differs:
+            faults.append(f"allocation {nth}: {differs}")
+    print(ends)
+    return faults
+
+
 def faults_of(replay: Any, does: Any, stream: Any, start: int, **wrong: Any) -> Any:
     """The faults, for each allocation in turn; prints how often the runs ended in each way."""
     ends: Counter[str] = collections.Counter()
@@ -146,6 +252,7 @@ def faults_of(replay: Any, does: Any, stream: Any, start: int, **wrong: Any) -> 
         except AssertionError as differs:
             faults.append(f"allocation {nth}: {differs}")
     print(ends)
+    assert faults or ends.keys() & {"start", "frame", "asked again"}, "nothing was refused"
     return faults
 
 
@@ -163,6 +270,11 @@ def test_one_shot(replay: Any, case: Any) -> None:
     assert not faults_of(replay, one_shot_end, case, len(case.given))[:5]
 
 
+@pytest.mark.parametrize("case", IN_STREAMS, ids=[case.name for case in IN_STREAMS])
+def test_one_shot_of_a_stream(replay: Any, case: Any) -> None:
+    assert not faults_in_stream(replay, case)[:5]
+
+
 @pytest.mark.wrong
 @pytest.mark.parametrize("stream", ROWS, ids=[stream.name for stream in ROWS])
 @pytest.mark.parametrize("wrong", WRONG)
@@ -175,6 +287,20 @@ def test_a_wrong_program_is_found(replay: Any, wrong: Any, stream: Any) -> None:
 @pytest.mark.parametrize("wrong", WRONG)
 def test_a_wrong_program_is_found_by_a_one_shot(replay: Any, wrong: Any, case: Any) -> None:
     assert faults_of(replay, one_shot_end, case, len(case.given), **wrong)
+
+
+@pytest.mark.wrong
+@pytest.mark.parametrize("case", IN_STREAMS, ids=[case.name for case in IN_STREAMS])
+@pytest.mark.parametrize("wrong", WRONG)
+def test_a_wrong_program_is_found_by_a_one_shot_of_a_stream(replay: Any, wrong: Any, case: Any) -> None:
+    assert faults_in_stream(replay, case, **wrong)
+
+
+@pytest.mark.wrong
+@pytest.mark.parametrize("case", BEGUN, ids=[case.name for case in BEGUN])
+@pytest.mark.parametrize("left", LEAVES)
+def test_what_a_one_shot_leaves_is_found(replay: Any, left: Any, case: Any) -> None:
+    assert faults_in_stream(replay, case, left([*case.tables, "t"][0]))
 
 
 def test_a_served_frame(replay: Any, serve: Callable[..., Server], library: str) -> None:

@@ -8,18 +8,23 @@ allocations of many commits show which is the first that folds the journal of a 
 """
 
 import collections
+import contextlib
 import itertools
 import select
 import subprocess
 import sys
-import time
-from typing import Any, Callable, Counter, List
+from dataclasses import dataclass
+from functools import partial
+from typing import Any, Callable, Counter, List, Sequence, Tuple, Union
 
 import pytest
 
-from tests.lib.checks import ATOMIC, HERE_OK, MARK, OK, event, same, watch, write
+from tests.lib.checks import ATOMIC, HERE_OK, MARK, OK, event, same, script, soon, watch, write
 from tests.lib.refusing import NO_MEMORY, RefusedServer, built
-from tests.lib.wire import Connection
+from tests.lib.wire import Connection, Term
+
+# A connection's number, its request and the reply.
+Step = Tuple[int, Term, Term]
 
 # The frame that is read takes the first allocations: the bytes, the payload, and the list of the frames.
 OF_A_FRAME = 3
@@ -29,111 +34,76 @@ NONE_LEFT = 2
 COUNTED, COUNTS = 1_000_000, 3
 # The entries of a journal by default.
 JOURNAL = 1024
-# An end that no reply confirms takes at most so many seconds; a session waits for a lock if it got nothing for so many.
-PATIENCE, QUIET = 20.0, 0.05
+# A session waits for a lock if it got nothing for so many seconds.
+QUIET = 0.05
 CREATES: List[Any] = [("create_table", name, []) for name in ("t", "u", "w")]
 
 
-class Closed(Exception):
-    """A connection was closed, after so many complete frames of replies."""
+def becomes(connection: Connection, request: Any, wanted: Any) -> None:
+    """The reply, in the end: a session needs a moment to leave."""
+    same(f"{request}", soon(partial(connection.ask, request), lambda reply: reply == wanted), wanted)
 
 
-def received(connection: Connection) -> Any:
-    try:
-        return connection.receive()
-    except (ConnectionError, ValueError):
-        if connection.stream.read():
-            raise AssertionError("it is closed inside a frame") from None
-        raise Closed from None
-
-
-def asked(connection: Connection, request: Any) -> Any:
-    """The reply; events before it are kept."""
-    try:
-        connection.send(request)
-    except ConnectionError:
-        raise Closed from None
-    return replied(connection)
-
-
-def replied(connection: Connection) -> Any:
-    while (term := received(connection))[0] != "reply":
-        connection.events.append(term)
-    return term[1]
-
-
-def soon(what: str, connection: Connection, request: Any, wanted: Any) -> None:
-    """Waits for this reply: a session needs a moment to leave."""
-    end = time.monotonic() + PATIENCE
-    while (found := asked(connection, request)) != wanted and time.monotonic() < end:
-        time.sleep(0.002)
-    same(what, found, wanted)
-
-
-def script(*steps: Any) -> None:
-    for connection, request, reply in steps:
-        same(f"{request}", asked(connection, request), reply)
-
-
-def free(connection: Connection, table: Any) -> None:
-    """No transaction has or awaits a lock in the table."""
-    soon(f"an index of {table}", connection, ("add_table_index", table, "val"), ATOMIC)
-    soon(f"no index of {table}", connection, ("del_table_index", table, "val"), ATOMIC)
+def is_free(connection: Connection, *tables: str) -> None:
+    """No transaction has or awaits a lock in the tables."""
+    for table in tables:
+        becomes(connection, ("add_table_index", table, "val"), ATOMIC)
+        becomes(connection, ("del_table_index", table, "val"), ATOMIC)
 
 
 def probe(connection: Connection) -> None:
     """It writes the key, and changes both tables."""
-    same("begin", asked(connection, "begin")[0], "tid")
+    same("begin", connection.ask("begin")[0], "tid")
     for table in ("u", "t"):
-        soon("its key", connection, ("write", (table, 1, "probe")), OK)
-        soon("its table", connection, ("write_lock_table", table), OK)
+        becomes(connection, ("write", (table, 1, "probe")), OK)
+        becomes(connection, ("write_lock_table", table), OK)
     script((connection, ("abort", "probe"), ("aborted", "probe")))
-    free(connection, "t")
-    free(connection, "u")
+    is_free(connection, "t", "u")
 
 
+@dataclass
 class Case:
     """What connections 1 and 2 are asked before, a request of connection 1 and its reply; whether it is asked in a transaction,
     whether it waits for the transaction of connection 2, and whether it puts a marker, for which it may be closed."""
 
-    def __init__(
-        self, name: str, before: Any, request: Any, reply: Any, inside: bool = False, waits: bool = False, marks: bool = False, words: Any = ()
-    ) -> None:
-        self.name, self.before, self.request, self.reply, self.words = name, before, request, reply, words
-        self.inside, self.waits, self.marks = inside, waits, marks
+    name: str
+    before: Sequence[Step]
+    request: Term
+    reply: Term
+    inside: bool = False
+    waits: bool = False
+    marks: bool = False
+    words: Sequence[str] = ()
 
-    def told(self, first: Any, second: Any) -> Any:
+    def told(self, first: Connection, second: Connection) -> Term:
         """The reply. The second commits if the first waits for it; this may be refused too."""
         first.send(self.request)
         if self.waits and not select.select([first.socket], [], [], QUIET)[0]:
-            try:
-                asked(second, "commit")
-            except Closed:
-                pass
+            with contextlib.suppress(ConnectionError):
+                second.ask("commit")
             second.close()
         try:
-            return replied(first)
-        except Closed:
+            return first.reply()
+        except ConnectionError:
             return "closed"
 
-    def again(self, first: Any, second: Any, other: Any) -> None:
+    def again(self, first: Connection, second: Connection, other: Connection) -> None:
         """After `no_memory` nothing is left of it. Sent again it gets its reply."""
         if self.waits:
             # It waits again if the second's transaction is still open, and ends.
             first.send(self.request)
             second.close()
-            same("again", replied(first), self.reply)
+            same("again", first.reply(), self.reply)
         elif self.inside:
-            free(other, "u")
+            is_free(other, "u")
             script((first, self.request, self.reply))
         else:
             script((first, "commit", ("error", "no_transaction")))
-            free(other, "t")
-            free(other, "u")
+            is_free(other, "t", "u")
             # No reply has the age that it used up.
-            same("again", asked(first, self.request)[0], self.reply[0])
+            same("again", first.ask(self.request)[0], self.reply[0])
 
-    def run(self, serve: Callable[..., RefusedServer], nth: int) -> Any:
+    def run(self, serve: Callable[..., RefusedServer], nth: int) -> str:
         with serve("--connections", "3", *self.words) as server:
             first, second, other = connections = [server.connect() for _ in range(3)]
             script(*((other, create, ATOMIC) for create in CREATES), (first, "commit", ("error", "no_transaction")))
@@ -155,7 +125,7 @@ class Case:
             server.ends()
             return end
 
-    def judged(self, told: Any, nth: int) -> str:
+    def judged(self, told: Term, nth: int) -> str:
         if told == NO_MEMORY:
             return "replied no_memory"
         if told == self.reply:
@@ -174,18 +144,18 @@ class Case:
             self.all = min(self.all, self.count)
 
 
+@dataclass
 class Watched:
     """The second changes a table that the first watches, after earlier commits: the first gets each event once, or is closed."""
 
-    count, value = 6, b"v" * 3000
+    name: str
+    before: Sequence[Step] = ()
+    words: Sequence[str] = ()
+    value: bytes = b"v" * 3000
+    count = 6
 
-    def __init__(self, name: str, before: Any = (), *words: str) -> None:
-        self.name, self.before, self.words, self.number = name, before, words, len(before) + 1
-
-    def counted(self, serve: Callable[..., RefusedServer]) -> None:
-        pass
-
-    def run(self, serve: Callable[..., RefusedServer], nth: int) -> Any:
+    def run(self, serve: Callable[..., RefusedServer], nth: int) -> str:
+        self.number = len(self.before) + 1
         with serve("--connections", "2", *self.words) as server:
             first, second = server.connect(), server.connect()
             script(*((second, create, ATOMIC) for create in CREATES), (first, watch(), HERE_OK))
@@ -193,10 +163,7 @@ class Watched:
             script(*((second, request, reply) for _, request, reply in self.before), (second, "begin", ("tid", self.number)))
             script(*((second, write(key, self.value), OK) for key in range(self.count)))
             server.refuse(nth)
-            try:
-                told = asked(second, "commit")
-            except Closed:
-                told = "closed"
+            told = second.ask("commit")
             end = self.told(first, told)
             made = server.made()
             assert made >= nth or end == "got its reply", f"nothing refused, and replied {told}"
@@ -211,41 +178,33 @@ class Watched:
             server.ends()
             return end if made >= nth else "none"
 
-    def told(self, first: Any, told: Any) -> str:
+    def told(self, first: Connection, told: Term) -> str:
         """How the first received the committed events: if it is closed, a beginning of them."""
         if told == NO_MEMORY:
             return "replied no_memory"
         same("a commit", told, ("atomic", self.number))
-        for key in range(self.count):
-            try:
-                same("event", received(first), event(key, self.value, self.number))
-            except Closed:
-                return "were closed for an event"
+        try:
+            for key in range(self.count):
+                same("event", first.receive(), event(key, self.value, self.number))
+        except ConnectionError:
+            return "were closed for an event"
         return "got its reply"
 
-    def next_event(self, first: Any, second: Any) -> None:
+    def next_event(self, first: Connection, second: Connection) -> None:
         """The next frame of the first is the event of the next commit."""
         script((second, ("transaction", [write("next", 0)], 0), ("atomic", [OK])))
-        same("the next event", received(first), event("next", 0, self.number + 1))
+        same("the next event", first.receive(), event("next", 0, self.number + 1))
 
 
-class WatchedLong(Watched):
-    """The events are longer together than what is kept before it is sent."""
-
-    value = b"v" * 15_000
-
-
+@dataclass
 class Joins:
     """There is no memory or no thread for a connection: it is closed with no frame, and counts among those that are served; with
     `--forever` another can be served again."""
 
-    def __init__(self, name: str, *words: str) -> None:
-        self.name, self.words = name, words
+    name: str
+    words: Sequence[str] = ()
 
-    def counted(self, serve: Callable[..., RefusedServer]) -> None:
-        pass
-
-    def run(self, serve: Callable[..., RefusedServer], nth: int) -> Any:
+    def run(self, serve: Callable[..., RefusedServer], nth: int) -> str:
         with serve("--connections", "2", *self.words) as server:
             second = server.connect()
             script(*((second, create, ATOMIC) for create in CREATES))
@@ -257,35 +216,20 @@ class Joins:
             probe(second)
             first.close()
             if self.words:
-                self.seat_is_free(server)
+                server.seated()[0].close()
             second.close()
             if not self.words:
                 server.ends()
             return end if made >= nth else "none"
 
-    def joined(self, first: Any) -> str:
+    def joined(self, first: Connection) -> str:
         try:
-            told = asked(first, "begin")
-            if told == NO_MEMORY:
-                told = asked(first, "begin")
-            same("begin", told, ("tid", 1))
-        except Closed:
+            if (told := first.ask("begin")) == NO_MEMORY:
+                told = first.ask("begin")
+        except ConnectionError:
             return "were closed for a connection"
+        same("begin", told, ("tid", 1))
         return "got its reply"
-
-    def seat_is_free(self, server: RefusedServer) -> None:
-        end = time.monotonic() + PATIENCE
-        while time.monotonic() < end:
-            other = server.connect()
-            try:
-                if asked(other, "begin")[0] == "tid":
-                    return
-            except Closed:
-                pass
-            finally:
-                other.close()
-            time.sleep(0.002)
-        raise AssertionError("the server serves no more connections")
 
 
 TID, IN_T = ("tid", 1), [(1, "begin", ("tid", 1)), (1, write(1, "a"), OK)]
@@ -303,9 +247,10 @@ DEEP_TOLD = ("atomic", [OK, ("atomic", [("atomic", [OK])]), [("u", 1, "a")]])
 HELD = [(2, "begin", ("tid", 1)), (2, ("wread", ("w", 1)), [])]
 # The journal of 16 entries is full.
 FULL = [(2, ("transaction", [("write", ("w", number, 0))], 0), ("atomic", [OK])) for number in range(16)]
+IN_FULL = [(1, "begin", ("tid", 17)), (1, write(1, "a"), OK)]
 WAITS = [(1, "begin", ("tid", 1)), (1, write(1, "a"), OK), (2, "begin", ("tid", 2)), (2, ("read", "u", 1), [])]
 
-CASES: List[Any] = [
+CASES: List[Union[Case, Watched, Joins]] = [
     Case("a begin", [], "begin", TID),
     Case("a child's begin", IN_T, "begin", TID, True),
     Case("a write", IN_U, ("write", ("u", 1, "a")), OK, True),
@@ -321,9 +266,7 @@ CASES: List[Any] = [
     Case("a read of no table", [(1, "begin", TID), (1, "begin", TID)], ("read", "nosuch", 1), ("aborted", ("no_exists", "nosuch")), True),
     Case("a write that waits", WAITS, ("write", ("u", 1, "a")), OK, True, True),
     Case("a commit", IN_T, "commit", ("atomic", 1), True),
-    Case(
-        "a commit that folds", [*FULL, (1, "begin", ("tid", 17)), (1, write(1, "a"), OK)], "commit", ("atomic", 17), True, words=("--journal", "16")
-    ),
+    Case("a commit that folds", [*FULL, *IN_FULL], "commit", ("atomic", 17), True, words=["--journal", "16"]),
     Case("a child's commit", [*IN_T, (1, "begin", TID), (1, write(1, "b"), OK)], "commit", ATOMIC, True),
     Case("an abort", IN_T, ("abort", ("why", [1, b"x"])), ("aborted", ("why", [1, b"x"])), True),
     Case("a new table", [], ("create_table", "v", [("attributes", ["k", "v", "w"]), ("index", ["w"])]), ATOMIC),
@@ -337,10 +280,11 @@ CASES: List[Any] = [
     Case("a one-shot whose child aborts", [], ("transaction", [write(1, "a"), INNER], 2), ("atomic", [OK, ("aborted", "why")])),
     Case("a one-shot that gives up", HELD, ("transaction", [write(1, "a"), INNER, ("read", "w", 1)], 0), ("aborted", "nomore")),
     Watched("a commit that is watched"),
-    WatchedLong("a long commit that is watched"),
-    Watched("a commit that is watched and folds", FULL, "--journal", "16"),
+    # The events are longer together than what is kept before it is sent.
+    Watched("a long commit that is watched", value=b"v" * 15_000),
+    Watched("a commit that is watched and folds", FULL, ["--journal", "16"]),
     Joins("a connection"),
-    Joins("a connection of a server without an end", "--forever"),
+    Joins("a connection of a server without an end", ["--forever"]),
 ]
 
 
@@ -348,7 +292,7 @@ CASES: List[Any] = [
 def refused(tabd: str, tmp_path_factory: pytest.TempPathFactory) -> Any:
     """Starts a server with some options whose allocations can be refused."""
     library = built("refusing_server", tmp_path_factory.mktemp("refusing"))
-    serve = lambda *words, **options: RefusedServer(tabd, library, *words, **options)
+    serve = partial(RefusedServer, tabd, library)
     with serve("--connections", "1") as server:
         server.refuse(COUNTED)
         server.connect().ask("begin")
@@ -362,16 +306,18 @@ def test_refused(refused: Any, case: Any) -> None:
     """Refuses each allocation in turn; prints how often the runs ended in each way."""
     ends: Counter[str] = collections.Counter()
     faults: List[str] = []
-    case.counted(refused)
+    if isinstance(case, Case):
+        case.counted(refused)
     for nth in itertools.count(1):
         if ends["none"] == NONE_LEFT or len(faults) == 5:
             break
         try:
             ends[case.run(refused, nth)] += 1
-        except (AssertionError, Closed, OSError, ValueError, subprocess.TimeoutExpired) as error:
+        except (AssertionError, OSError, ValueError, subprocess.TimeoutExpired) as error:
             faults.append(f"allocation {nth}: {type(error).__name__} {error}")
     print(ends)
     assert not faults
+    assert ends.keys() > {"none"}, "nothing was refused"
 
 
 def test_the_default_journal(refused: Any) -> None:
@@ -391,13 +337,16 @@ def test_the_default_journal(refused: Any) -> None:
 @pytest.mark.parametrize("words", [(), ("--metrics", "0")], ids=["", "--metrics"])
 def test_a_start(refused: Any, words: List[str]) -> None:
     """A start that is refused any allocation or thread says where it listens and serves, or fails and does not say it."""
+    failed = 0
     for nth in itertools.count(1):
         try:
             server = refused("--connections", "2", "--forever", *words, nth=nth)
         except OSError as error:
             same(f"allocation {nth}", str(error), "the server does not start: tabd: no memory\n")
+            failed += 1
             continue
         with server:
             server.seated()[0].close()
             if server.made() < nth:
                 break
+    assert failed, "nothing was refused"

@@ -11,32 +11,21 @@ import resource
 import select
 import threading
 import time
-from typing import Any, Callable, List, Tuple
+from typing import Any, Callable, List
 
 import pytest
 
-from tests.lib.checks import ATOMIC, CREATE, END, HERE_OK, MARK, OK, QUIET, event, holds, script, side_by_side, waits, watch, write
+from tests.lib.checks import ATOMIC, CREATE, END, HERE_OK, MARK, OK, QUIET, at_last, event, holds, script, side_by_side, waits, watch, write
 from tests.lib.servers import Server
-from tests.lib.wire import Connection, frame
+from tests.lib.wire import Connection, Term, frame
 
 served = pytest.mark.served
 
 
-# A commit that writes the key of its number, which is its age too, as it is sent.
-def alone(number: int, value: Any) -> Any:
-    return event(number, value, number)
-
-
-def in_batch(number: int, value: Any) -> Tuple[Any, ...]:
-    return ("batch", number, [event(number, value, number)])
-
-
-def by_events(number: int, events: Any) -> Any:
-    return events
-
-
-def by_commits(number: int, events: Any) -> List[Any]:
-    return [("batch", number, events)]
+# How the events of a commit are sent, by its number.
+Sent = Callable[[int, List[Term]], List[Term]]
+apart: Sent = lambda number, events: events
+together: Sent = lambda number, events: [("batch", number, events)]
 
 
 def too_long(connection: Connection) -> None:
@@ -164,7 +153,7 @@ def test_raise(clients: List[Connection], count: int) -> None:
 
     def attempt(connection: Connection) -> bool:
         found = connection.ask(("wread", ("t", 1)))
-        return found != "restart" and connection.ask(write(1, found[0][2] + 1)) == OK
+        return bool(found != "restart" and connection.ask(write(1, found[0][2] + 1)) == OK)
 
     def raise_all(connection: Connection) -> None:
         for turn in range(each):
@@ -234,37 +223,40 @@ def test_two_mirrors(clients: List[Connection]) -> None:
 @pytest.mark.parametrize(
     "sent",
     [
-        pytest.param(alone, id="of events", marks=served(3, "--outbox", "16", small=True)),
-        pytest.param(in_batch, id="of batches", marks=served(3, "--outbox", "16", "--batches", small=True)),
+        pytest.param(apart, id="of events", marks=served(3, "--outbox", "16", small=True)),
+        pytest.param(together, id="of batches", marks=served(3, "--outbox", "16", "--batches", small=True)),
     ],
 )
-def test_a_slow_reader(clients: List[Connection], sent: Any) -> None:
+def test_a_slow_reader(clients: List[Connection], sent: Sent) -> None:
     """A client that reads nothing gets an overflow after the events that were sent; the other gets each commit, and no one waits."""
     idle, writer, reader = clients
     value, count = b"v" * 4000, 200
+    # A commit writes the key of its number, which is its age too.
+    wanted = [None, *(sent(number, [event(number, value, number)])[0] for number in range(1, count + 1))]
     script((writer, CREATE, ATOMIC), (idle, watch(), HERE_OK), (reader, watch(), HERE_OK))
     assert reader.event() == MARK, "begin marker"
     for number in range(1, count + 1):
         script((writer, ("transaction", [write(number, value)], 0), ("atomic", [OK])))
-        assert reader.event() == sent(number, value), "the one that reads"
+        assert reader.event() == wanted[number], "the one that reads"
     idle.widen()
     assert idle.event() == MARK, "begin marker"
     number = 1
-    while (told := idle.event())[0] == sent(number, value)[0]:
-        assert told == sent(number, value), "the one that reads slowly"
+    while (told := idle.event())[0] != "mnesia_overflow":
+        assert told == wanted[number], "the one that reads slowly"
         number += 1
     assert told == ("mnesia_overflow", number), "overflow"
     assert number < count, "so many at most"
     # It may watch again.
     script((idle, watch(), HERE_OK), (writer, ("transaction", [write(count + 1, 0)], 0), ("atomic", [OK])))
     assert idle.event() == MARK, "begin marker"
-    assert idle.event() == sent(count + 1, 0), "event"
+    assert [idle.event()] == sent(count + 1, [event(count + 1, 0, count + 1)]), "event"
 
 
 @served(2, "--outbox", "1")
 def test_an_outbox_of_one_item(clients: List[Connection]) -> None:
     """With an outbox of one item, a client overflows if commits come faster than it reads, and gets the overflow also if nothing was sent before."""
     watcher, writer = clients
+    overflows = 0
     script((writer, CREATE, ATOMIC))
     for first in range(1, 400, 40):
         numbers = range(first, first + 40)
@@ -277,11 +269,13 @@ def test_an_outbox_of_one_item(clients: List[Connection]) -> None:
         for number in numbers:
             told = watcher.event()
             if told == ("mnesia_overflow", number):
+                overflows += 1
                 break
             assert told == event(number, 0, number), "event"
         else:
             script((watcher, ("unsubscribe", ("table", "t", "simple")), HERE_OK))
             assert watcher.event() == END, "end marker"
+    assert overflows, "it read too fast"
 
 
 @pytest.mark.parametrize(
@@ -334,11 +328,11 @@ def test_during_long_replies(clients: List[Connection]) -> None:
 @pytest.mark.parametrize(
     "sent",
     [
-        pytest.param(by_events, id="of events", marks=served(2)),
-        pytest.param(by_commits, id="in batches", marks=served(2, "--batches")),
+        pytest.param(apart, id="of events", marks=served(2)),
+        pytest.param(together, id="in batches", marks=served(2, "--batches")),
     ],
 )
-def test_long_items(clients: List[Connection], sent: Any) -> Any:
+def test_long_items(clients: List[Connection], sent: Sent) -> None:
     """A dump, and commits with long old records, come whole, in order with short commits. All are made before the dump is read, which has
     no end before that, so they follow it at once."""
     def changed(number: int, changes: Any) -> Any:
@@ -379,7 +373,7 @@ def test_batches(clients: List[Connection]) -> None:
         (one, ("delete_table", "t"), ATOMIC),
     )
     deletion = ("mnesia_table_event", ("delete", ("t", 1), ("tid", 1)))
-    commits = [("batch", 1, [event(1, "a", 1), deletion, event(2, "b", 1)]), in_batch(3, "c")]
+    commits = together(1, [event(1, "a", 1), deletion, event(2, "b", 1)]) + together(3, [event(3, "c", 3)])
     ends: List[Any] = [(mirror, ([],), "unsubscribed"), (other, (), "deleted")]
     for connection, mark, end in ends:
         assert connection.event() == ("mnesia_table_begin", "t", "simple", *mark), "begin marker"
@@ -460,9 +454,7 @@ def test_frees(clients: List[Connection], end: Any) -> None:
     script((first, "begin", ("tid", 1)), (first, write(1, "a"), OK), (first, ("write_lock_table", "t"), OK))
     end(first)
     script((second, "begin", ("tid", 2)))
-    # An end that no reply confirms takes some time.
-    found = next((found for _ in range(50) if (found := second.ask(("read", "t", 1))) != "restart"), "restart")
-    assert found == [], "its lock"
+    assert at_last(second, ("read", "t", 1)) == [], "its lock"
     script(
         (second, write(1, "b"), OK),
         (second, "commit", ("atomic", 1)),

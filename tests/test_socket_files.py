@@ -5,13 +5,14 @@ test_forever.py tests the replies over a socket file. Each case has a folder of 
 
 import contextlib
 import os
+import pathlib
 import resource
 import socket
 import stat
 import subprocess
 import tempfile
 import time
-from typing import Any, Iterator, Tuple
+from typing import Any, Callable, Iterator, Tuple
 
 import pytest
 
@@ -51,7 +52,7 @@ class Place:
 
 
 @pytest.fixture
-def place(tabd: str) -> Iterator[Any]:
+def place(tabd: str) -> Iterator[Place]:
     """In a short path, since that of a socket file is."""
     with tempfile.TemporaryDirectory() as folder:
         yield Place(tabd, folder)
@@ -71,7 +72,7 @@ def test_mode(place: Any, umask: int, wanted: Any) -> None:
         assert place.file()[1:] == (stat.S_IFSOCK, wanted)
 
 
-def test_requests_and_events(place: Any) -> None:
+def test_requests_and_events(place: Place) -> None:
     """Requests and events, and the end of a server whose connections are closed: the file is gone."""
     with place.server() as server:
         first, second = Connection(place.path), Connection(place.path)
@@ -85,7 +86,7 @@ def test_requests_and_events(place: Any) -> None:
         assert os.listdir(place.folder) == [], "the folder"
 
 
-def test_with_counters(place: Any) -> None:
+def test_with_counters(place: Place) -> None:
     """The port of the counters stays on loopback."""
     with place.server("--metrics", "0") as server:
         port = int(server.line().removeprefix("metrics on 127.0.0.1:"))
@@ -93,7 +94,7 @@ def test_with_counters(place: Any) -> None:
         is_served(place.path)
 
 
-def test_file_of_a_killed_server(place: Any) -> None:
+def test_file_of_a_killed_server(place: Place) -> None:
     """A file at which no one listens any more is taken over."""
     with place.server():
         pass
@@ -109,7 +110,7 @@ def test_file_of_a_killed_server(place: Any) -> None:
         is_served(place.path)
 
 
-def test_in_use(place: Any) -> None:
+def test_in_use(place: Place) -> None:
     """A file at which a server listens stays, and so does that server."""
     # A start that is refused has connected, to see whether a server listens, and that server may not have seen it go yet.
     with place.server("--forever", connections=3):
@@ -120,44 +121,39 @@ def test_in_use(place: Any) -> None:
         is_served(place.path)
 
 
-def make_file(place: Any) -> None:
+def make_file(place: Place) -> None:
     with open(place.path, "w", encoding="ascii") as file:
         file.write("kept")
 
 
-def look_at_file(place: Any) -> None:
-    with open(place.path, encoding="ascii") as file:
-        assert file.read() == "kept", "the file"
-
-
-def make_link(place: Any) -> None:
+def make_link(place: Place) -> None:
     """To a socket file at which no one listens."""
     with socket.socket(socket.AF_UNIX) as left:
         left.bind(place.path + ".left")
     os.symlink(place.path + ".left", place.path)
 
 
-def look_at_link(place: Any) -> None:
-    assert (os.readlink(place.path), os.path.exists(place.path)) == (place.path + ".left", True), "the link"
+def make_folder(place: Place) -> None:
+    os.mkdir(place.path)
 
 
-def look_at_folder(place: Any) -> None:
-    assert os.listdir(place.path) == [], "the folder"
+def contents(path: str) -> Tuple[object, ...]:
+    """Of a link, a folder or a file."""
+    if os.path.islink(path):
+        return os.readlink(path), os.path.exists(path)
+    return tuple(os.listdir(path)) if os.path.isdir(path) else (pathlib.Path(path).read_text(encoding="ascii"),)
 
 
-@pytest.mark.parametrize(
-    "make, look",
-    [(make_file, look_at_file), (lambda place: os.mkdir(place.path), look_at_folder), (make_link, look_at_link)],
-    ids=["a file", "a folder", "a link"],
-)
-def test_no_socket(place: Any, make: Any, look: Any) -> None:
+@pytest.mark.parametrize("make", [make_file, make_folder, make_link], ids=["a file", "a folder", "a link"])
+def test_no_socket(place: Place, make: Callable[[Place], None]) -> None:
     """What is no socket file stays as it is."""
     make(place)
+    before = place.file(), contents(place.path)
     place.refused(IN_USE)
-    look(place)
+    assert (place.file(), contents(place.path)) == before
 
 
-def test_no_accept(place: Any) -> None:
+def test_no_accept(place: Place) -> None:
     """A server that ends since it can't accept removes its file too."""
     with place.server(connections=4) as server:
         first = Connection(place.path)
@@ -171,7 +167,7 @@ def test_no_accept(place: Any) -> None:
         assert os.listdir(place.folder) == [], "the folder"
 
 
-def test_exchanged(place: Any) -> None:
+def test_exchanged(place: Place) -> None:
     """The server does not remove a file that has replaced its own."""
     with place.server() as server:
         connections = [Connection(place.path) for _ in range(2)]
@@ -185,7 +181,7 @@ def test_exchanged(place: Any) -> None:
             assert place.file() == before, "the file"
 
 
-def test_removed(place: Any) -> None:
+def test_removed(place: Place) -> None:
     """Nor does it mind that the file is gone."""
     with place.server() as server:
         connections = [Connection(place.path) for _ in range(2)]
@@ -195,21 +191,21 @@ def test_removed(place: Any) -> None:
         server.ends()
 
 
-def test_no_page(place: Any) -> None:
+def test_no_page(place: Place) -> None:
     """A start that fails after it has created the file removes it."""
     with socket.create_server(("127.0.0.1", 0)) as taken:
         place.refused(IN_USE, "--metrics", str(taken.getsockname()[1]))
         assert os.listdir(place.folder) == [], "the folder"
 
 
-def test_a_closed_stream(place: Any) -> None:
+def test_a_closed_stream(place: Place) -> None:
     """A standard stream is closed, whose number the socket would get."""
     for file, told in [(0, DEVICE + "tabd: a standard stream is closed\n"), (1, DEVICE + "tabd: a standard stream is closed\n"), (2, "")]:
         place.refused(told, preexec_fn=lambda file=file: os.close(file))
         assert os.listdir(place.folder) == [], "the folder"
 
 
-def test_a_long_path(place: Any) -> None:
+def test_a_long_path(place: Place) -> None:
     """A path has 107 bytes at most."""
     most = os.path.join(place.folder, "x" * (106 - len(place.folder)))
     assert len(most) == 107, "its length"
@@ -220,18 +216,18 @@ def test_a_long_path(place: Any) -> None:
     assert os.listdir(place.folder) == [], "the folder"
 
 
-def test_no_folder(place: Any) -> None:
+def test_no_folder(place: Place) -> None:
     """The folder has to be there."""
     place.refused(DEVICE + "tabd: No such file or directory (os error 2)\n", path=os.path.join(place.folder, "none", "socket"))
 
 
-def test_no_permission(place: Any) -> None:
+def test_no_permission(place: Place) -> None:
     """A folder in which not even the superuser makes a file."""
     place.refused(DEVICE + "tabd: Operation not permitted (os error 1)\n", path="/sys/kernel/tabd")
 
 
 @pytest.mark.tries(3)
-def test_a_full_queue(place: Any) -> None:
+def test_a_full_queue(place: Place) -> None:
     """A listener that accepts nothing, and whose queue has no room for one more: the start fails at once."""
     with contextlib.ExitStack() as stack:
         listener = stack.enter_context(socket.socket(socket.AF_UNIX))
@@ -247,7 +243,7 @@ def test_a_full_queue(place: Any) -> None:
         assert time.monotonic() - begun < AT_ONCE and place.file() == before
 
 
-def test_a_relative_path(place: Any) -> None:
+def test_a_relative_path(place: Place) -> None:
     """A path from the folder in which the server was started."""
     with place.server(path="socket", cwd=place.folder):
         is_served(place.path)

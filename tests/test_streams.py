@@ -32,6 +32,9 @@ FAILING = 6
 
 STREAMS = sorted(streams(), key=lambda stream: -len(stream.all))
 each_stream = pytest.mark.parametrize("stream", STREAMS, ids=[stream.name for stream in STREAMS])
+# All but the one of no bytes, which cannot be cut.
+ASKED = [stream for stream in STREAMS if stream.given]
+each_asked = pytest.mark.parametrize("stream", ASKED, ids=[stream.name for stream in ASKED])
 
 
 def started(program: str, stream: Stream, stdin: Any = subprocess.PIPE, stdout: Any = subprocess.PIPE, **words: Any) -> Any:
@@ -151,7 +154,8 @@ def rooms(stream: Stream) -> Any:
 def differ(runs: Any) -> Any:
     """Of runs by their names, each a call and what it has to give, those that give something else; the first few."""
     faults = []
-    for name, does, given, wanted in runs:
+    assert (each := list(runs)), "nothing is run"
+    for name, does, given, wanted in each:
         found = does(*given)
         if found != wanted:
             same = "the output as it should be" if found[1] == wanted[1] else f"{len(found[1])} bytes, wanted {len(wanted[1])}"
@@ -182,7 +186,7 @@ def test_in_pieces(tabd: str, stream: Stream, size: int) -> None:
     assert pieces(tabd, stream, parts) == stream.answer(len(stream.all))
 
 
-@each_stream
+@each_asked
 def test_cut(tabd: str, stream: Stream) -> None:
     """At each byte."""
     assert not differ((place, run, (tabd, stream, stream.all[:place]), stream.answer(place)) for place in cuts(stream))
@@ -194,17 +198,17 @@ def failing(stream: Stream) -> Iterator[Any]:
         yield count, (1, b"".join(stream.told[:count]), DEVICE)
 
 
-@each_stream
+@each_asked
 def test_output_that_no_one_reads(tabd: str, stream: Stream) -> None:
     assert not differ((count, no_reader, (tabd, stream, count), wanted) for count, wanted in failing(stream))
 
 
-@each_stream
+@each_asked
 def test_input_that_breaks_off(tabd: str, stream: Stream) -> None:
     assert not differ(((count, more), no_input, (tabd, stream, count, more), wanted) for count, wanted in failing(stream) for more in (0, 3))
 
 
-@each_stream
+@each_asked
 def test_output_that_is_full(tabd: str, stream: Stream) -> None:
     told, whole = b"".join(stream.told), b"".join(stream.given)
     pairs = itertools.product(rooms(stream), (stream.given, [whole]))

@@ -2,7 +2,9 @@
 
 import socket
 import threading
-from typing import Any, Callable, List, Tuple
+import time
+from functools import partial
+from typing import Any, Callable, List, Tuple, TypeVar
 
 from tests.lib.wire import PATIENCE, Connection, Term
 
@@ -10,8 +12,10 @@ OK, ATOMIC, HERE_OK = "ok", ("atomic", "ok"), ("ok", "nonode@nohost")
 CREATE: Term = ("create_table", "t", [])
 MARK, END = ("mnesia_table_begin", "t", "simple"), ("mnesia_table_end", "t", "unsubscribed")
 LIMIT = ("reply", ("error", ("system_limit", "sessions")))
-# Nothing has come after so many seconds: it waits.
-QUIET = 0.2
+# Nothing has come after so many seconds: it waits. What another thread of the server still has to do is done after so many.
+QUIET, SOON = 0.2, 20.0
+
+Found = TypeVar("Found")
 
 
 def write(key: Term, value: Term) -> Term:
@@ -47,12 +51,31 @@ def holds(what: str, condition: object) -> None:
         raise AssertionError(what)
 
 
+def soon(find: Callable[[], Found], is_wanted: Callable[[Found], Any], patience: float = SOON) -> Found:
+    """What is found as soon as it is as wanted, or in the end."""
+    end = time.monotonic() + patience
+    while not is_wanted(found := find()) and time.monotonic() < end:
+        time.sleep(0.002)
+    return found
+
+
+def at_last(connection: Connection, request: Term) -> Term:
+    """The reply, if it was `restart` since a session that broke off has not left yet."""
+    return soon(partial(connection.ask, request), lambda reply: reply != "restart")
+
+
 def script(*steps: Tuple[Connection, Term, Term]) -> None:
     """Sends each request on its connection, and compares its reply."""
     __tracebackhide__ = True
     for line, (connection, request, wanted) in enumerate(steps):
         reply = connection.ask(request)
         assert reply == wanted, differs(f"step {line}, {request!r:.200}", reply, wanted)
+
+
+def opened(*connections: Connection) -> None:
+    """Each has a transaction, in the order of their ages."""
+    for connection in connections:
+        assert connection.ask("begin")[0] == "tid", "begin"
 
 
 def waits(connection: Connection) -> None:
@@ -65,6 +88,14 @@ def waits(connection: Connection) -> None:
     finally:
         connection.socket.settimeout(PATIENCE)
     raise AssertionError(f"while it waits {found!r} comes")
+
+
+def read_waits(older: Connection, younger: Connection, *before: Tuple[Term, Term]) -> None:
+    """In a new table the older's read of record 1 waits for the younger's write of "b"; the older has made these requests before."""
+    script((older, CREATE, ATOMIC), (older, "begin", ("tid", 1)), *((older, *step) for step in before))
+    script((younger, "begin", ("tid", 2)), (younger, write(1, "b"), OK))
+    older.send(("read", "t", 1))
+    waits(older)
 
 
 def side_by_side(jobs: List[Tuple[Callable[..., Any], Tuple[Any, ...]]]) -> None:

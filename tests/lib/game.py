@@ -14,7 +14,7 @@ from typing import Any, List, Set, Tuple
 
 from tests.lib.judging import LONG, Attempt, Differs, Log, OneShot, Run, is_operation
 from tests.lib.model import KINDS, OPTIONS
-from tests.lib.wire import PATIENCE, Connection, term_of
+from tests.lib.wire import PATIENCE, Connection, frames_of, term_of
 
 WRITERS, VANISHING, CONNECTIONS, OUTBOX = 6, 24, 44, 96
 KEYS, CLASSES, COMMON = [1, 2, "a", (1, 2)], [0, 1], 3
@@ -215,36 +215,31 @@ class Writer:
 
 
 class Watcher(Log):
-    """A client that watches tables, and logs its events and markers with their times."""
+    """A client that watches tables, and logs its events and markers with their times. How it does: it `records`, or subscribes with a `dump`,
+    has `small` buffers and reads late, or `vanishes`."""
 
-    def __init__(
-        self, game: Any, name: str, tabs: Any, level: str, dump: bool, records: bool = False, small: bool = False, vanishes: bool = False
-    ) -> None:
-        super().__init__(name, records)
-        self.game, self.tabs, self.level, self.dump, self.small, self.vanishes = game, tabs, level, ("dump",) * dump, small, vanishes
-        self.chance, self.connection = Chance(game.seed, name), Connection(game.port, small)
+    def __init__(self, game: Any, name: str, tabs: List[str], level: str, *how: str) -> None:
+        super().__init__(name, "records" in how)
+        self.game, self.tabs, self.level, self.how = game, tabs, level, how
+        self.chance, self.connection = Chance(game.seed, name), Connection(game.port, "small" in how)
         self.replies: List[Any] = []
         self.watched: Set[str] = set()
-        self.data = bytearray()
+        self.data = b""
         game.watchers.append(self)
 
     def pump(self, patience: float) -> bool:
         """Reads what is there, and waits no longer for it. False at the stream's end."""
         if not select.select([self.connection.socket], [], [], patience)[0]:
             return True
-        more = self.connection.socket.recv(65_536)
-        self.data += more
-        place, got = 0, now()
-        while len(self.data) >= place + 4 and len(self.data) >= (end := place + 4 + int.from_bytes(self.data[place : place + 4], "big")):
-            term = term_of(bytes(self.data[place:end]))
-            place = end
+        more, got = self.connection.socket.recv(65_536), now()
+        whole, self.data = frames_of(self.data + more)
+        for term in map(term_of, whole):
             if term[0] == "reply":
                 self.replies.append(term[1])
                 continue
             self.frames.append((term, got))
             if term[0] == "mnesia_overflow":
                 self.watched.clear()
-        del self.data[:place]
         return bool(more)
 
     def until(self, what: Any, is_so: Any) -> None:
@@ -265,7 +260,8 @@ class Watcher(Log):
         return reply
 
     def subscribe(self, tab: str) -> None:
-        if self.ask(("subscribe", ("table", tab, self.level), *self.dump))[0] == "ok":
+        dump = [it for it in self.how if it == "dump"]
+        if self.ask(("subscribe", ("table", tab, self.level), *dump))[0] == "ok":
             self.watched.add(tab)
 
     def unsubscribe(self, tab: str) -> bool:
@@ -275,7 +271,7 @@ class Watcher(Log):
             self.watched.discard(tab)
         elif reply[1] != "outbox_full":
             self.until("an overflow", lambda: tab not in self.watched)
-        return reply[0] == "ok"
+        return bool(reply[0] == "ok")
 
     def run(self) -> Any:
         while now() < self.game.end:
@@ -286,16 +282,16 @@ class Watcher(Log):
             if self.records:
                 continue
             self.idle()
-            if self.vanishes and self.frames and self.chance.random() < 0.02 and self.game.may_vanish():
+            if "vanishes" in self.how and self.frames and self.chance.random() < 0.02 and self.game.may_vanish():
                 self.vanished = True
                 self.connection.break_off()
-                return Watcher(self.game, self.name + "'", self.tabs, self.level, bool(self.dump), vanishes=True).run()
+                return Watcher(self.game, self.name + "'", self.tabs, self.level, *self.how).run()
         self.game.over.wait()
         return self.finish()
 
     def idle(self) -> None:
         chance = self.chance.random()
-        if self.small and chance < 0.15:
+        if "small" in self.how and chance < 0.15:
             time.sleep(self.chance.random() * 1.5)
         elif chance < 0.2:
             time.sleep(self.chance.random() * 0.02)
@@ -331,13 +327,13 @@ class Game:
                 raise Differs(f"table {tab} is not made")
         both = list(KINDS)
         for name in ("a recorder", "another recorder"):
-            recorder = Watcher(self, name, both, "detailed", False, records=True)
+            recorder = Watcher(self, name, both, "detailed", "records")
             for tab in both:
                 recorder.subscribe(tab)
-        Watcher(self, "a mirror", both, "detailed", True)
-        Watcher(self, "a late reader", both, "simple", True, small=True)
-        Watcher(self, "another late reader", ["t"], "detailed", False, small=True)
-        Watcher(self, "one that vanishes", ["t"], "simple", True, vanishes=True)
+        Watcher(self, "a mirror", both, "detailed", "dump")
+        Watcher(self, "a late reader", both, "simple", "dump", "small")
+        Watcher(self, "another late reader", ["t"], "detailed", "small")
+        Watcher(self, "one that vanishes", ["t"], "simple", "dump", "vanishes")
         self.writers = [Writer(self, number) for number in range(1, WRITERS + 1)]
         self.end = now() + seconds
 

@@ -11,7 +11,8 @@ import ast
 import bisect
 import itertools
 import math
-from typing import Any, Dict, Iterator, List, Tuple
+import operator
+from typing import Any, Callable, Dict, Iterator, List, Tuple
 
 from tests.lib.model import EMPTY, Alone, conflict, events, lock_of, whole
 from tests.lib.wire import spell
@@ -20,6 +21,8 @@ from tests.lib.wire import spell
 LONG = bytes(4000)
 # The transactions of fewer commits than these may be open one after another by chance.
 FEW = 100
+# Of a lock's first and last time, its owner and itself.
+TIMES = operator.itemgetter(0, 1)
 
 
 class Undecided(Exception):
@@ -200,7 +203,8 @@ def stretches(frames: Any) -> Iterator[Any]:
     """Of each commit that a recorder received without a gap before it, the age of the one before, and its age and events. None is
     before the first; it watches both tables again from their second marker on."""
     age, marks = None, 0
-    for kind, group in itertools.groupby((term for term, _ in frames), lambda term: term[0] == "mnesia_table_event" and term[1][-1][1]):
+    age_of: Callable[[Any], Any] = lambda term: term[0] == "mnesia_table_event" and term[1][-1][1]
+    for kind, group in itertools.groupby((term for term, _ in frames), age_of):
         told = list(group)
         if kind:
             if marks >= len(EMPTY) and age != "gap":
@@ -339,11 +343,12 @@ class Judge:
     def in_time(self) -> Any:
         """Commits, numbers and ages go with the time."""
         ages = sorted((it.age, *it.began) for it in self.attempts if it.began[1] is not None)
-        firsts = [next(group) for _, group in itertools.groupby(ages, lambda it: it[0])]
+        firsts = [next(group) for _, group in itertools.groupby(ages, operator.itemgetter(0))]
         numbers = sorted((it.number, it.sent, it.got) for it in self.attempts if it.end == "commit")
         commits = [(f"the commit of age {it.age}", it.who.sent, it.who.got) for it in self.commits]
-        named = lambda what, spans: [(f"{what} {number}", sent, got) for number, sent, got in spans]
-        return against_time(commits) or against_time(named("commit", numbers)) or against_time(named("the begin of age", firsts))
+        numbered = [(f"commit {number}", sent, got) for number, sent, got in numbers]
+        begun = [(f"the begin of age {age}", sent, got) for age, sent, got in firsts]
+        return against_time(commits) or against_time(numbered) or against_time(begun)
 
     def seen_at(self, who: Any) -> Any:
         """The positions in the order that the replies of a transaction that changed nothing may have."""
@@ -378,7 +383,7 @@ class Judge:
 
     def locks(self) -> Any:
         """Finds two transactions that surely had conflicting locks at once."""
-        spans = sorted((start, end, Owner(it), lock) for it in self.attempts for lock, start, end in it.locks())
+        spans = sorted(((start, end, it, lock) for it in self.attempts for lock, start, end in it.locks()), key=TIMES)
         held: List[Any] = []
         most = 0
         for start, end, owner, lock in spans:
@@ -392,7 +397,7 @@ class Judge:
 
     def restarts(self) -> Iterator[Any]:
         """Checks that each restarted transaction met an older one that had a lock or waited for it."""
-        asked = sorted((sent, until, Owner(it), lock) for it in [*self.attempts, *self.shots] for lock, sent, until in it.asked())
+        asked = sorted(((sent, until, it, lock) for it in [*self.attempts, *self.shots] for lock, sent, until in it.asked()), key=TIMES)
         # A client that vanished may have requested it until the end.
         gone, asked = [it for it in asked if it[1] == math.inf], [it for it in asked if it[1] < math.inf]
         starts, ends = [it[0] for it in asked], list(itertools.accumulate((it[1] for it in asked), max))
@@ -401,19 +406,9 @@ class Judge:
             move, _, sent, got = who.last
             lock, last = lock_of(move), bisect.bisect(starts, got)
             met = asked[bisect.bisect_left(ends, sent) : last] + [it for it in gone if it[0] <= got]
-            is_met = lambda until, owner, other: until >= sent and owner.it is not who and conflict(lock, other)
-            if not any(is_met(*it[1:]) and (it[2].age or ages.get(id(it[2].it), 0)) < who.age for it in reversed(met)):
+            others = [owner for _, until, owner, other in met if until >= sent and owner is not who and conflict(lock, other)]
+            if not any((owner.age or ages.get(id(owner), 0)) < who.age for owner in others):
                 yield f"age {who.age} was restarted at {move}, and met no older one"
-
-
-class Owner:
-    """Comes after equal times in a sorted list."""
-
-    def __init__(self, it: Any) -> None:
-        self.it, self.age = it, it.age
-
-    def __lt__(self, other: Any) -> bool:
-        return id(self) < id(other)
 
 
 class Follower:

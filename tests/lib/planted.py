@@ -79,6 +79,14 @@ class KeepsADeletedTable(Book):
             super().put(session, item, number)
 
 
+class CallsABagASet(Book):
+    """A bag is reported as a set."""
+
+    def info(self, session: Session, request: Term) -> Term:
+        reply = super().info(session, request)
+        return "set" if reply == "bag" else reply
+
+
 # The number of steps after the begins that find the fault, at most: of sessions that meet, and of sessions that watch.
 MEETING = {KeepsAChild: 4, LosesAReadLock: 2, RestartsForAYounger: 2, GrantsARetry: 3}
 WATCHING = {NumbersAnOverflowLate: 4, KeepsADeletedTable: 2}

@@ -17,7 +17,7 @@ from tests.lib.wire import term_of
 NO_MEMORY = ("error", "no_memory")
 
 
-def built(name: str, folder: Any) -> Any:
+def built(name: str, folder: Any) -> str:
     """The library of a source in this file's folder."""
     source, library = os.path.join(os.path.dirname(__file__), f"{name}.c"), os.path.join(folder, f"{name}.so")
     subprocess.run(["cc", "-shared", "-fPIC", "-O1", "-o", library, source, "-ldl", "-lpthread"], check=True)

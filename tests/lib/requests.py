@@ -148,7 +148,7 @@ SHAPES: Shapes = {
     "del_table_index": [(is_atom, is_attribute)],
     "table_info": [(is_atom, lambda it: it in ("type", "attributes", "index", "size"))],
     "transaction": [(are_members, lambda it: isinstance(it, int) and 0 <= it <= 1_000)],
-    "subscribe": [(is_watched,), (is_watched, lambda it: it == "dump")],
+    "subscribe": [(is_watched,), (is_watched, lambda it: bool(it == "dump"))],
     "unsubscribe": [(is_watched,)],
 }
 WORDS = ("begin", "commit", "join", "leave", "retry", "take")

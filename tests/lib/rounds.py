@@ -1,10 +1,14 @@
 """Rounds of clients that meet at a server (game.py), each judged (judging.py); one that fails leaves its record."""
 
+import contextlib
 from typing import Any, Callable, List, Optional
 
 from tests.lib.game import CONNECTIONS, OUTBOX, Game
-from tests.lib.judging import Differs, Judge, shown
+from tests.lib.judging import Differs, Judge, Undecided, shown
 from tests.lib.servers import Server
+
+# A round that shows nothing is played again, so many times in all.
+TRIES = 3
 
 # Starts what stands between the clients and the port of a server, and gives the port that they connect to.
 Between = Optional[Callable[[Any], int]]
@@ -20,6 +24,13 @@ class Rounds:
         """Every other one has a journal that is always full."""
         words = ["--connections", CONNECTIONS, "--outbox", OUTBOX, "--journal", [16, 1024][seed % 2], "--abort-waits"]
         return self.start(*map(str, words), **self.options)
+
+    def decided(self, seed: int, seconds: float, between: Between = None) -> List[str]:
+        """The faults of a round that shows something."""
+        for _ in range(TRIES):
+            with contextlib.suppress(Undecided):
+                return self.faults(seed, seconds, between)
+        raise AssertionError(f"no recorder got all events, {TRIES} times")
 
     def faults(self, seed: int, seconds: float, between: Between = None) -> List[str]:
         """Of a round. Behind a wrong server nothing is given up: that one counts on a reply to each request. Undecided if the recorders both

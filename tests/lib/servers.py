@@ -1,7 +1,9 @@
 """A `tabd serve` for a test or a measurement: with any options, at a port or a socket file, with its memory and its counters."""
 
+import contextlib
 import http.client
 import os
+import pathlib
 import re
 import resource
 import subprocess
@@ -9,11 +11,11 @@ import threading
 import time
 from typing import Any, Callable, Dict, Optional, Tuple, TypeVar
 
-from tests.lib.checks import LIMIT, same
+from tests.lib.checks import LIMIT, same, soon
 from tests.lib.wire import Connection, Place, Term, frame
 
-# A thread of the server may still be about to end so many seconds after its connection did; an end takes so many at most.
-PATIENCE, TO_END = 20.0, 60
+# An end takes so many seconds at most.
+TO_END = 60
 # What a session that has ended did is counted after so many seconds at most, and memory is given back after so many.
 COUNTED, SETTLED = 5.0, 0.3
 # The number of the system call, on x86-64.
@@ -31,7 +33,7 @@ class Server:
     def __init__(self, program: str, *words: str, path: Optional[str] = None, **options: Any) -> None:
         where = ["--socket", path] if path else ["--port", "0"]
         pipes: Any = {"stdin": subprocess.DEVNULL, "stdout": subprocess.PIPE, "stderr": subprocess.PIPE}
-        self.process = subprocess.Popen([program, "serve", *where, *words], text=True, **pipes, **options)
+        self.process: subprocess.Popen[str] = subprocess.Popen([program, "serve", *where, *words], text=True, **pipes, **options)
         line = self.line()
         if not line.startswith("listening on "):
             raise OSError(f"the server does not start: {line}{self.process.communicate()[1]}")
@@ -79,23 +81,27 @@ class Server:
 
     def seated(self) -> Tuple[Connection, Term]:
         """A connection that the server serves, as soon as it can serve one more, and its first reply."""
-        end = time.monotonic() + PATIENCE
-        while time.monotonic() < end:
-            connection = self.connect()
-            try:
-                connection.send("begin")
-                if (found := connection.receive()) != LIMIT:
-                    return connection, found[1]
-            except (OSError, ValueError):
-                # It was closed before the request was sent, or read, or answered.
-                pass
-            connection.close()
-            time.sleep(0.01)
-        raise AssertionError("the server serves no more connections")
+        found = soon(self.begun, bool)
+        assert found, "the server serves no more connections"
+        return found
+
+    def begun(self) -> Optional[Tuple[Connection, Term]]:
+        """A connection with its first reply, if it is served."""
+        connection = self.connect()
+        # It may be closed before the request is sent, or read, or answered.
+        with contextlib.suppress(OSError, ValueError):
+            if (found := connection.ask("begin")) != LIMIT[1]:
+                return connection, found
+        connection.close()
+        return None
+
+    def proc(self, name: str) -> str:
+        """What the system says of its process."""
+        return pathlib.Path(f"/proc/{self.process.pid}/{name}").read_text(encoding="ascii")
 
     def status(self) -> Dict[str, str]:
-        with open(f"/proc/{self.process.pid}/status", encoding="ascii") as file:
-            return dict(line.split(":", 1) for line in file)  # type: ignore[misc]
+        lines = self.proc("status").splitlines()
+        return {name: value for name, _, value in (line.partition(":") for line in lines)}
 
     def kilobytes(self, name: str = "VmRSS") -> int:
         """What it holds once it has given back what it may."""
@@ -109,25 +115,20 @@ class Server:
 
     def settled(self, wanted: Tuple[int, int]) -> Tuple[int, int, int]:
         """What it holds, once its threads and descriptors are as many as wanted."""
-        end = time.monotonic() + PATIENCE
-        while (found := self.held())[:2] != wanted and time.monotonic() < end:
-            time.sleep(0.01)
-        return found
+
+        def is_wanted(found: Tuple[int, int, int]) -> bool:
+            return found[:2] == wanted
+
+        return soon(self.held, is_wanted)
 
     def accepts(self) -> None:
         """Once its first thread waits for a connection."""
-        end = time.monotonic() + PATIENCE
-        while time.monotonic() < end:
-            with open(f"/proc/{self.process.pid}/syscall", encoding="ascii") as file:
-                if file.read().split()[0] == ACCEPT4:
-                    return
-            time.sleep(0.001)
-        raise AssertionError("it accepts no connection")
+        found = soon(lambda: self.proc("syscall").split()[0], lambda call: call == ACCEPT4)
+        assert found == ACCEPT4, "it accepts no connection"
 
     def used(self) -> float:
         """The seconds of a processor that it has used."""
-        with open(f"/proc/{self.process.pid}/stat", encoding="ascii") as file:
-            fields = file.read().rsplit(")", 1)[1].split()
+        fields = self.proc("stat").rsplit(")", 1)[1].split()
         return (int(fields[11]) + int(fields[12])) / os.sysconf("SC_CLK_TCK")
 
 
@@ -194,9 +195,7 @@ class Metered(Server):
     def has(self, **wanted: int) -> None:
         """These metrics, once all is counted that has happened."""
         __tracebackhide__ = True
-        end = time.monotonic() + COUNTED
-        while (found := {name: self.page()[name] for name in wanted}) != wanted and time.monotonic() < end:
-            time.sleep(0.02)
+        found = soon(lambda: {name: self.page()[name] for name in wanted}, lambda found: found == wanted, COUNTED)
         assert found == wanted, "metrics"
 
 

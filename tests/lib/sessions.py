@@ -47,7 +47,7 @@ class Session:
             self.alone.tell(move)
 
     def is_full(self) -> bool:
-        return sum(move == "begin" or move[0] in OPERATIONS for move in self.moves) == MOVES
+        return len([move for move in self.moves if move == "begin" or move[0] in OPERATIONS]) == MOVES
 
 
 def covers(one: Lock, other: Lock) -> bool:

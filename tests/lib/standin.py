@@ -1,9 +1,10 @@
-"""Wrong servers for test_history.py: each is a proxy between the clients and a right server, and breaks one rule.
+"""Wrong servers for test_history.py and test_in_turn.py: each is a proxy between the clients and a right server, and breaks one rule.
 
 A wrong server sees each request before the server does, and each frame before its client does, and decides what is passed on. So it
 can lose a lock, by a read outside of the client's transaction, and drop, double or swap frames.
 """
 
+import contextlib
 import select
 import socket
 import threading
@@ -11,7 +12,8 @@ import time
 from collections import deque
 from typing import Any, Deque, Dict, List, Set, Tuple
 
-from tests.lib.wire import Connection, Term, frame, spell, term_of
+from tests.lib.model import UPDATES
+from tests.lib.wire import Connection, Term, frame, frames_of, spell, term_of
 
 # Every so many of a kind are done wrong.
 OFTEN = 23
@@ -32,7 +34,7 @@ class Link:
         self.records = False
 
     def run(self) -> Any:
-        ends = {self.client: bytearray(), self.server: bytearray()}
+        ends = {self.client: b"", self.server: b""}
         while True:
             for end in select.select(list(ends), [], [])[0]:
                 try:
@@ -41,20 +43,12 @@ class Link:
                     more = b""
                 if not more:
                     return self.over(end)
-                ends[end] += more
+                whole, ends[end] = frames_of(ends[end] + more)
                 try:
-                    self.pass_on(end, ends[end])
+                    for one in whole:
+                        (self.asked if end is self.client else self.told)(term_of(one))
                 except OSError:
                     return self.over(self.client)
-
-    def pass_on(self, end: Any, data: Any) -> None:
-        while len(data) >= 4 and len(data) >= (size := 4 + int.from_bytes(data[:4], "big")):
-            term = term_of(bytes(data[:size]))
-            del data[:size]
-            if end is self.client:
-                self.asked(term)
-            else:
-                self.told(term)
 
     def asked(self, term: Any) -> None:
         self.records |= term == ("subscribe", ("table", "t", "detailed"))
@@ -93,10 +87,8 @@ class Link:
         if end is self.client:
             self.wrong.gone(self)
         for one in (self.client, self.server):
-            try:
+            with contextlib.suppress(OSError):
                 one.shutdown(socket.SHUT_RDWR)
-            except OSError:
-                pass
             one.close()
 
 
@@ -120,7 +112,10 @@ class Wrong:
                 link = Link(self, client, self.port)
             except OSError:
                 return
-            threading.Thread(target=link.run, daemon=True).start()
+            self.serve(link)
+
+    def serve(self, link: Link) -> None:
+        threading.Thread(target=link.run, daemon=True).start()
 
     def now_and_then(self) -> bool:
         with self.lock:
@@ -158,7 +153,7 @@ class Wrong:
 
 
 def is_event(term: Any) -> bool:
-    return term[0] == "mnesia_table_event"
+    return bool(term[0] == "mnesia_table_event")
 
 
 def what_of(event: Any) -> Tuple[Any, ...]:
@@ -275,9 +270,7 @@ class GivesANewAgeAfterARestart(Wrong):
 
 class LosesAReadLock(Wrong):
     def asked(self, link: Any, request: Any) -> Any:
-        if request[0] in ("write", "delete_object"):
-            link.touched.add((request[1][0], spell(request[1][1])))
-        if request[0] == "delete":
+        if request[0] in UPDATES:
             link.touched.add((request[1][0], spell(request[1][1])))
         is_free = request[0] == "read" and request[1] != "nosuch" and (request[1], spell(request[2])) not in link.touched
         return None if is_free and self.by_itself(link, request) else request
@@ -285,7 +278,7 @@ class LosesAReadLock(Wrong):
 
 class LooksAtATableWithoutALock(Wrong):
     def asked(self, link: Any, request: Any) -> Any:
-        if request[0] in ("write", "delete", "delete_object"):
+        if request[0] in UPDATES:
             link.touched.add(request[1][0])
         looks = request[0] in ("all_keys", "index_read") and request[-1] != "value" and not link.touched
         return None if looks and self.by_itself(link, request) else request
@@ -342,10 +335,8 @@ class TellsAReaderAnOldRead(Wrong):
 
 class CommitsWhatIsGone(Wrong):
     def gone(self, link: Any) -> None:
-        try:
+        with contextlib.suppress(OSError):
             link.server.sendall(frame("commit") * link.depth)
-        except OSError:
-            pass
 
 
 class CommitsWhatIsAborted(Wrong):
@@ -468,6 +459,31 @@ class OneAfterAnother(Wrong):
         if link.notes.pop("alone", False):
             self.aside_lock.release()
 
+
+class ServesOneAfterAnother(Wrong):
+    """A connection is served when the one before has ended."""
+
+    def serve(self, link: Link) -> None:
+        link.run()
+
+
+class MakesCallsInTurn(Wrong):
+    """A call is made after the reply to the one before, of all clients: one that waits for a lock delays the others."""
+
+    def __init__(self, port: int) -> None:
+        self.turn = threading.Lock()
+        super().__init__(port)
+
+    def asked(self, link: Any, request: Any) -> Any:
+        self.turn.acquire()
+        return request
+
+    def replied(self, link: Any, request: Any, term: Any) -> Any:
+        self.turn.release()
+        return term
+
+
+IN_TURN = [ServesOneAfterAnother, MakesCallsInTurn]
 
 WRONG = [
     DropsAnEvent, DoublesAnEvent, SwapsEvents, DropsASubscribersEvent, DoublesASubscribersEvent, SwapsASubscribersEvents,

@@ -1,7 +1,7 @@
 """What the properties are tried with: terms, encodings of terms, steps of transactions, options of tables, and subscriptions."""
 
 import itertools
-from typing import Any, Callable, List
+from typing import Any, Callable, List, Optional, Tuple
 
 from hypothesis import strategies as st
 
@@ -101,7 +101,10 @@ ONE_SHOTS = st.lists(st.one_of(PARTS, st.lists(PARTS, max_size=3).map(lambda par
 ON_TABLES = [(name, tab, attribute) for name in ("add_table_index", "del_table_index") for tab in OPTIONS for attribute in ("value", 3, "key")]
 INFOS = list(itertools.product(["table_info"], [*OPTIONS, "no"], ["type", "attributes", "index", "size"]))
 MARKS = list(itertools.product(["unsubscribe"], itertools.product(["table"], [*OPTIONS, "no"], ["simple", "detailed"])))
+# Most of it does nothing outside of a transaction, so there are many begins.
 ANY = st.one_of(
+    st.just("begin"),
+    of_any(updates(*MEETING), looks(*MEETING)),
     of_any(updates(*MEETING), looks(*MEETING), failing([1]), [*ENDS, "retry", "take"]),
     of_any(ENDS, ["take", "leave", *[("delete_table", tab) for tab in OPTIONS], *[("create_table", *it) for it in OPTIONS.items()]]),
     of_any(ON_TABLES, INFOS, MARKS, [("subscribe", what) for _, what in MARKS], [("subscribe", what, "dump") for _, what in MARKS]),
@@ -127,7 +130,7 @@ def encodings(draw: Any) -> bytes:
 DAMAGES = st.one_of(st.none(), st.tuples(st.integers(0, 60), st.sampled_from([0, 1, 60]), st.binary(max_size=1)))
 
 
-def damaged(payload: bytes, damage: Any) -> bytes:
+def damaged(payload: bytes, damage: Optional[Tuple[int, int, bytes]]) -> bytes:
     if damage is None:
         return payload
     at, count, more = damage
@@ -136,14 +139,13 @@ def damaged(payload: bytes, damage: Any) -> bytes:
 
 def otherwise(draw: Callable[[Any], Any], term: Term) -> bytes:
     """An encoding of a term that is read, and may be another than the one that is written."""
-    pick = lambda *ways: draw(st.sampled_from(ways))()
     if isinstance(term, int):
         size = max(1, (abs(term).bit_length() + 7) // 8)
-        big = lambda: b"n" + bytes([size + 1, term < 0]) + abs(term).to_bytes(size + 1, "little")
-        return pick(lambda: spell(term), big)
+        big = b"n" + bytes([size + 1, term < 0]) + abs(term).to_bytes(size + 1, "little")
+        return bytes(draw(st.sampled_from([spell(term), big])))
     if isinstance(term, str):
         text = term.encode()
-        return pick(lambda: spell(term), lambda: b"v" + len(text).to_bytes(2, "big") + text)
+        return bytes(draw(st.sampled_from([spell(term), b"v" + len(text).to_bytes(2, "big") + text])))
     if isinstance(term, bytes):
         return spell(term)
     if isinstance(term, Map):
@@ -152,5 +154,5 @@ def otherwise(draw: Callable[[Any], Any], term: Term) -> bytes:
     parts = [otherwise(draw, part) for part in term]
     count = len(parts).to_bytes(4, "big")
     if isinstance(term, tuple):
-        return pick(lambda: b"h" + bytes([len(parts)]) + b"".join(parts), lambda: b"i" + count + b"".join(parts))
+        return bytes(draw(st.sampled_from([b"h" + bytes([len(parts)]), b"i" + count]))) + b"".join(parts)
     return b"l" + count + b"".join(parts) + b"j"

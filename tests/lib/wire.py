@@ -4,13 +4,19 @@ import io
 import socket
 import struct
 from collections import deque
-from typing import Any, Deque, List, Tuple, Union
+from typing import IO, Any, Callable, Deque, List, Tuple, Union
 
-from examples.frames import Map, frame, read, spell, take
+from examples import frames as example
+from examples.frames import Map
 
-__all__ = ["Connection", "Map", "PATIENCE", "Place", "Term", "frame", "frames", "frames_of", "read", "spell", "take", "term_of"]
+__all__ = ["Closed", "Connection", "Map", "PATIENCE", "Place", "Term", "frame", "frames", "frames_of", "read", "spell", "take", "term_of"]
 
 Term = Any
+# The examples have no types.
+frame: Callable[[Term], bytes] = example.frame
+spell: Callable[[Term], bytes] = example.spell
+read: Callable[[IO[bytes]], Term] = example.read
+take: Callable[[IO[bytes], int], bytes] = example.take
 # A port, or the path of a socket file.
 Place = Union[int, str]
 # A reply or an event that has not come after so many seconds is an error.
@@ -23,16 +29,20 @@ def frames(*terms: Term) -> bytes:
 
 def frames_of(data: bytes) -> Tuple[List[bytes], bytes]:
     """Complete frames, and the bytes after them."""
-    found = []
-    while len(data) >= 4 and len(data) >= (end := 4 + int.from_bytes(data[:4], "big")):
-        found.append(data[:end])
-        data = data[end:]
-    return found, data
+    found, place = [], 0
+    while len(data) >= place + 4 and len(data) >= (end := place + 4 + int.from_bytes(data[place : place + 4], "big")):
+        found.append(data[place:end])
+        place = end
+    return found, data[place:]
 
 
 def term_of(data: bytes) -> Term:
     """The term of a frame."""
     return read(io.BytesIO(data[5:]))
+
+
+class Closed(ConnectionError):
+    """A connection ended after a complete frame."""
 
 
 class Connection:
@@ -55,7 +65,10 @@ class Connection:
 
     def payload(self) -> bytes:
         """The next frame's, not taken apart."""
-        return take(self.stream, int.from_bytes(take(self.stream, 4), "big"))
+        head = self.stream.read(4)
+        if not head:
+            raise Closed
+        return take(self.stream, int.from_bytes(head + take(self.stream, 4 - len(head)), "big"))
 
     def receive(self) -> Term:
         """The next frame's term."""

@@ -1,6 +1,6 @@
 """`tabd-cli keep` with concurrent writers, while the server and the keeper are killed and started again.
 
-TABD_LONG=1 kills 20 times, TABD_KILLS=50 so often."""
+Each test kills 5 times, or so often as the variable TABD_KILLS says, and TABD_LONG=1 prints figures: `TABD_LONG=1 TABD_KILLS=50`."""
 
 from __future__ import annotations
 
@@ -31,8 +31,10 @@ from tabd.cli.store import Store
 from tabd.cli.wire import Batch, Wire, frame
 
 LONG = bool(os.environ.get("TABD_LONG"))
-KILLS = int(os.environ.get("TABD_KILLS", "20" if LONG else "2"))
+KILLS = int(os.environ.get("TABD_KILLS", "5"))
 WRITERS, ACCOUNTS, EACH = 4, 200, 100
+# So little a log may have that new dumps are taken all the time, and a kill may come within one.
+COMPACT = ("--compact-at", "0.02")
 
 
 class Keeping:
@@ -112,6 +114,7 @@ class Kept(Patient):
         self.server = Server("--forever", "--batches", "--outbox", "65536", connections=16)
         self.port = self.server.port
         self.keeper: Optional[Keeping] = None
+        self.words: Tuple[str, ...] = ()
         with tabd.Client(self.port) as client:
             client.create_table("a")
             client.create_table("b", type="bag", index=["val"])
@@ -131,38 +134,38 @@ class Kept(Patient):
             self.keeper.kill()
         shutil.rmtree(self.folder)
 
-    def keep(self, *words: str) -> None:
-        self.keeper = Keeping(self.port, self.folder, self.lines, *words)
+    def keep(self) -> None:
+        self.keeper = Keeping(self.port, self.folder, self.lines, *self.words)
 
     def restart_keeper(self) -> None:
         assert self.keeper is not None
         self.keeper.kill()
         self.keep()
 
-    def wait_live(self) -> None:
+    def wait_live(self, port: int, keeper: Optional[Keeping]) -> None:
         """Until the keeper has marked the server."""
+        assert keeper is not None
         deadline = time.monotonic() + SECONDS
         while time.monotonic() < deadline:
-            with contextlib.suppress(tabd.Closed, tabd.NoExists), tabd.Client(self.port, connections=1) as client:
+            with contextlib.suppress(tabd.Closed, tabd.NoExists), tabd.Client(port, connections=1) as client:
                 [marks] = client.one_shot().read("tabd_kept", "keep").run()
                 if marks and marks[0][2][0] == "live":
                     return
-            assert self.keeper is not None
-            self.assertIsNone(self.keeper.process.poll(), "the keeper has ended")
+            self.assertIsNone(keeper.process.poll(), "the keeper has ended")
             time.sleep(0.02)
-        self.fail(f"the server is not marked live; the keeper wrote {self.lines[-5:]}")
+        self.fail(f"the server is not marked live; the keeper wrote {keeper.lines[-5:]}")
 
-    def contents(self) -> Dict[str, List[tabd.Record]]:
-        with tabd.Client(self.port, connections=1) as client:
+    @staticmethod
+    def contents(port: int) -> Dict[str, List[tabd.Record]]:
+        with tabd.Client(port, connections=1) as client:
             return client.run(lambda t: {name: t.match_object((name, "_", "_")) for name in ("a", "b", "bank")})
 
-    def check(self, writers: List[Writer], commit: int) -> None:
+    def check(self, found: Dict[str, List[tabd.Record]], writers: List[Writer], commit: int) -> None:
         """The tables are those of the commit with this number, of the run in which the writers' commits were."""
-        found = self.contents()
         self.assertEqual(sum(record[2] for record in found["bank"]), ACCOUNTS * EACH)
         self.assertEqual([record[1:] for record in found["a"]], [record[1:] for record in found["b"]])
         for writer, (_, _, value) in zip(writers, found["a"]):
-            for number, wrote in writer.commits:
+            for number, wrote in list(writer.commits):
                 self.assertEqual(number <= commit, wrote <= value, f"commit {number} wrote {wrote}, and {value} is there behind commit {commit}")
 
     def kill_and_start(self, chance: random.Random, kill_keeper: bool) -> None:
@@ -180,7 +183,7 @@ class Kept(Patient):
         if kill_keeper and not while_down:
             time.sleep(chance.random() * 0.5)
             self.restart_keeper()
-        self.wait_live()
+        self.wait_live(self.port, self.keeper)
 
     def wait_for(self, writers: List[Writer], commits: int) -> None:
         """Until they have made so many commits in all."""
@@ -189,13 +192,18 @@ class Kept(Patient):
             self.assertLess(time.monotonic(), deadline, "the writers make no commits")
             time.sleep(0.001)
 
-    def rounds(self, seed: int, kill_keeper: bool) -> None:
-        chance = random.Random(seed)
+    def started(self, seed: int) -> List[Writer]:
+        """A keeper and the writers."""
         self.keep()
-        self.wait_live()
+        self.wait_live(self.port, self.keeper)
         writers = [Writer(self, number, seed + number) for number in range(WRITERS)]
         for writer in writers:
             writer.start()
+        return writers
+
+    def rounds(self, seed: int, kill_keeper: bool) -> None:
+        chance = random.Random(seed)
+        writers = self.started(seed)
         acknowledged = lost = 0
         for kill in range(1, KILLS + 1):
             before = len(self.lines)
@@ -208,7 +216,7 @@ class Kept(Patient):
             kept = [int(line.split()[1]) for line in self.lines[since:restored]]
             commit = int(self.lines[restored].split()[1])
             self.assertGreaterEqual(commit, max(kept))
-            self.check(writers, commit)
+            self.check(self.contents(self.port), writers, commit)
             acknowledged += sum(number <= commit for writer in writers for number, _ in writer.commits)
             lost += sum(number > commit for writer in writers for number, _ in writer.commits)
             for writer in writers:
@@ -223,7 +231,61 @@ class Kept(Patient):
         self.rounds(1, False)
 
     def test_keeper_is_killed_too(self) -> None:
+        self.words = COMPACT
         self.rounds(2, True)
+
+    def test_keeper_is_killed(self) -> None:
+        """The server goes on. After each kill the folder is restored to another server."""
+        chance = random.Random(3)
+        self.words = COMPACT
+        writers = self.started(3)
+        self.may_write.set()
+        restored = 0
+        for kill in range(1, KILLS + 1):
+            if chance.random() < 0.3:
+                # While it starts, or takes its first dump.
+                time.sleep(chance.random() * 0.5)
+            else:
+                self.wait_for_lines(len(self.lines) + chance.randrange(1, 40))
+            assert self.keeper is not None
+            self.keeper.kill()
+            kept = self.last_kept()
+            commit, found = self.elsewhere()
+            self.assertGreaterEqual(commit, max(kept, restored))
+            self.check(found, writers, commit)
+            restored = commit
+            # Every other keeper gathers commits.
+            self.words = COMPACT + (("--every", "20") if kill % 2 else ())
+            self.keep()
+            if LONG:
+                print(kill, end=" ", flush=True)
+        # Later commits follow.
+        last = max(number for writer in writers for number, _ in writer.commits)
+        while self.last_kept() <= last:
+            self.wait_for_lines(len(self.lines) + 1)
+        if LONG:
+            print(f"\n{KILLS} kills of the keeper: {len(self.lines)} lines of what was kept, up to commit {self.last_kept()}")
+
+    def wait_for_lines(self, count: int) -> None:
+        """Until the keepers have written so many lines in all."""
+        deadline = time.monotonic() + SECONDS
+        while len(self.lines) < count:
+            self.assertLess(time.monotonic(), deadline, "nothing more is kept")
+            time.sleep(0.001)
+
+    def last_kept(self) -> int:
+        return max(int(line.split()[1]) for line in self.lines if line.startswith("kept "))
+
+    def elsewhere(self) -> Tuple[int, Dict[str, List[tabd.Record]]]:
+        """The commit and the tables that a copy of the folder restores to another server."""
+        lines: List[str] = []
+        with tempfile.TemporaryDirectory() as room, Server("--forever", "--batches", connections=16) as other:
+            keeper = Keeping(other.port, shutil.copytree(self.folder, os.path.join(room, "copy")), lines)
+            try:
+                self.wait_live(other.port, keeper)
+                return int(lines[0].split()[1]), self.contents(other.port)
+            finally:
+                keeper.kill()
 
 
 def batch(number: int, *changes: Tuple[Any, ...]) -> bytes:
@@ -304,14 +366,16 @@ class Folder(unittest.TestCase):
         self.close(store)
 
     def test_generations(self) -> None:
-        """The older files are there until the newer dump is."""
+        """The older files are there until the newer dump is, and files of others stay."""
+        with open(os.path.join(self.folder, ".other.part"), "wb"):
+            pass
         store = Store(self.folder)
         path = store.begin()
-        self.assertEqual(sorted(os.listdir(self.folder)), ["1.dump", "1.log", "2.log", "lock", "token"])
+        self.assertEqual(sorted(os.listdir(self.folder)), [".other.part", "1.dump", "1.log", "2.log", "lock", "token"])
         with open(path, "wb"):
             pass
         store.begun()
-        self.assertEqual(sorted(os.listdir(self.folder)), ["2.dump", "2.log", "lock", "token"])
+        self.assertEqual(sorted(os.listdir(self.folder)), [".other.part", "2.dump", "2.log", "lock", "token"])
         self.close(store)
 
 
@@ -461,6 +525,15 @@ class Foreign(Patient):
         with self.started("--batches") as (server, client):
             self.keep_for(server, lambda: True)
             self.assertEqual(self.records(client), [("t", 1, b"new")])
+
+    def test_table_that_is_not_named(self) -> None:
+        """It would not be in the next dump."""
+        with self.started("--batches") as (server, client):
+            client.create_table("u")
+            with Store(self.folder) as store, self.assertRaisesRegex(Failure, "the folder has table t too"):
+                Keeper((server.port, "127.0.0.1"), store, Settings(["u"], "keep", 0.0, 1 << 30, "", True, False)).run()
+            self.keep_for(server, lambda: True)
+            self.assertEqual(self.records(client), [("t", 1, b"kept")])
 
     def test_another_folder(self) -> None:
         with self.started("--batches") as (server, client):

@@ -1,19 +1,30 @@
-"""What packaging/ has: the completion, the units, and with TABD_LONG=1 the packages."""
+"""What packaging/ has: the completions, the units, and with TABD_LONG=1 the packages, which are also installed in a new Debian by mmdebstrap."""
 
 from __future__ import annotations
 
+import contextlib
+import io
 import os
+import re
 import shutil
 import subprocess
 import sys
 import tempfile
 import unittest
-from typing import List
+from typing import IO, Iterator, List, Set
 
-from servers import HERE, PROGRAM
+from servers import HERE, PROGRAM  # isort: skip (it makes `tabd` known)
+
+from tabd.cli import main
 
 PACKAGING = os.path.join(HERE, "..", "..", "..", "packaging")
 UNITS = ("tabd.service", "tabd-socket.service", "tabd-keep.service")
+# Files of both packages, of which each is there after the installation.
+WANTED = ["usr/bin/tabd", "usr/bin/tabd-cli", "usr/share/man/man1/tabd.1.gz", "usr/share/man/man1/tabd-cli.1.gz"]
+WANTED += [f"usr/share/bash-completion/completions/{name}" for name in ("tabd", "tabd-cli")]
+WANTED += [f"usr/lib/systemd/system/{name}" for name in UNITS]
+WANTED += [f"usr/share/doc/{name}/copyright" for name in ("tabd", "python3-tabd")]
+NOBODY = 65534
 # What `systemd-analyze security` may rate a unit, times ten.
 MOST = 20
 
@@ -32,21 +43,60 @@ def is_program() -> bool:
 
 @unittest.skipUnless(os.path.isdir(PACKAGING), "the client was copied without the repository")
 class Packaging(unittest.TestCase):
-    def completed(self, *words: str) -> List[str]:
-        """The completions that bash offers for the last argument."""
-        script = f". {PACKAGING}/tabd-cli.bash; COMP_WORDS=(\"$@\"); COMP_CWORD=$(($# - 1)); _tabd_cli; printf '%s\\n' \"${{COMPREPLY[@]}}\""
+    @classmethod
+    def setUpClass(cls) -> None:
+        sys.path.insert(0, PACKAGING)
+        cls.addClassCleanup(sys.path.remove, PACKAGING)
+
+    def completed(self, *words: str, text: str = "") -> List[str]:
+        """The completions that bash offers for the last argument, by the text of the completion, or that of tabd-cli."""
+        text = text or f". {PACKAGING}/tabd-cli.bash"
+        function = "_" + words[0].replace("-", "_")
+        script = f"{text}\nCOMP_WORDS=(\"$@\"); COMP_CWORD=$(($# - 1)); {function}; printf '%s\\n' \"${{COMPREPLY[@]}}\""
         return said("bash", "-c", script, "bash", *words).split()
 
     def test_completion(self) -> None:
-        sys.path.insert(0, PACKAGING)
-        self.addCleanup(sys.path.remove, PACKAGING)
         import manual
 
         with open(os.path.join(PACKAGING, "tabd-cli.bash"), encoding="utf-8") as file:
-            self.assertEqual(file.read(), manual.completion_of_client(), "packaging/manual.py generates it again")
+            self.assertEqual(file.read(), manual.completion_of_client(), "packaging/manual.py writes it again")
         self.assertEqual(self.completed("tabd-cli", "re"), ["read", "restore"])
         self.assertEqual(self.completed("tabd-cli", "--server", "4000", "dr"), ["drop"])
         self.assertEqual(self.completed("tabd-cli", "watch", "--d"), ["--dump", "--detailed"])
+        self.assertEqual(self.completed("tabd-cli", "create", "t", "--type", ""), ["set", "bag"])
+        self.assertIn("tabd-cli.bash", self.completed("tabd-cli", "restore", f"{PACKAGING}/tabd-c")[0])
+
+    def test_completion_has_all_words(self) -> None:
+        """As the help of tabd-cli, and of each command, has them."""
+        commands = [words.partition("  ")[0] for words in re.findall(r"^    (\w+  .*)", self.help(), re.M)]
+        self.assertGreater(len(commands), 10)
+        self.assertEqual(self.completed("tabd-cli", ""), [*commands, *self.options(self.help())])
+        for command in commands:
+            self.assertIn(command, self.completed("tabd-cli", command[:2]))
+            self.assertEqual(self.completed("tabd-cli", command, "--"), self.options(self.help(command)))
+
+    @staticmethod
+    def help(*words: str) -> str:
+        out = io.StringIO()
+        with contextlib.redirect_stdout(out), contextlib.suppress(SystemExit):
+            main([*words, "--help"])
+        return out.getvalue()
+
+    @staticmethod
+    def options(text: str) -> List[str]:
+        """The options that a help page has a line for."""
+        return re.findall(r"^  (?:-\w, )?(--[a-z-]+)", text, re.M)
+
+    @unittest.skipUnless(PROGRAM, "TABD names no program")
+    def test_completion_of_the_server(self) -> None:
+        import manual
+
+        text = manual.completion_of_server(PROGRAM)
+        self.assertEqual(self.completed("tabd", "s", text=text), ["serve"])
+        for command in ("serve", "replay"):
+            wanted = re.findall(r"^ +(?:-\w, )?(--[a-z-]+)", said(PROGRAM, command, "--help"), re.M)
+            self.assertIn("--outbox", wanted)
+            self.assertEqual(sorted(self.completed("tabd", command, "--", text=text)), sorted(wanted))
 
     @unittest.skipUnless(shutil.which("systemd-analyze"), "there is no systemd-analyze")
     def test_units(self) -> None:
@@ -71,6 +121,59 @@ class Packaging(unittest.TestCase):
             for name in ("tabd", "tabd-cli"):
                 page = subprocess.run(["man", "-l", f"{root}/usr/share/man/man1/{name}.1.gz"], stdout=subprocess.PIPE, text=True, check=True).stdout
                 self.assertIn("EXIT STATUS", page)
+
+    @unittest.skipUnless(os.environ.get("TABD_LONG") and shutil.which("mmdebstrap") and os.geteuid() == 0 and is_program(), "no TABD_LONG, or no mmdebstrap")
+    def test_new_debian(self) -> None:
+        """Both packages in a new Debian: installed, started as the unit does it, served, and removed."""
+        with tempfile.TemporaryDirectory() as folder:
+            root = os.path.join(folder, "root")
+            said("mmdebstrap", "--quiet", "--variant=minbase", "--include=python3", "bookworm", root)
+            paths = said(sys.executable, os.path.join(PACKAGING, "deb"), PROGRAM, os.path.join(root, "tmp", "debs")).split()
+            before = files_of(root)
+            said("chroot", root, "dpkg", "-i", *[f"/tmp/debs/{os.path.basename(path)}" for path in paths])
+            added = files_of(root) - before
+            for name in WANTED:
+                self.assertIn(name, added)
+            self.serves(root)
+            said("chroot", root, "dpkg", "--purge", "tabd", "python3-tabd")
+            left = {name for name in files_of(root) - before if not name.startswith(("var/lib/dpkg", "var/log", "var/cache"))}
+            self.assertEqual(left, set())
+
+    def serves(self, root: str) -> None:
+        """With the unit's options, by a user without rights; and keeps a table over the server's end."""
+        with open(os.path.join(root, "usr/lib/systemd/system/tabd.service")) as file:
+            [options] = re.findall(r'^Environment="TABD_OPTIONS=--port 4000 (.*)"$', file.read(), re.M)
+        kept = os.path.join(root, "var/lib/tabd-keep")
+        os.mkdir(kept)
+        os.chown(kept, NOBODY, NOBODY)
+        for event in ("kept", "restored"):
+            with started(root, "tabd", "serve", "--port", "0", *options.split()) as serving:
+                port = next(serving).rsplit(":", 1)[1].strip()
+                if event == "kept":
+                    for words in (("create", "route"), ("write", "route", "alice", "7")):
+                        said("chroot", root, "tabd-cli", "--server", port, *words)
+                with started(root, "tabd-cli", "--server", port, "keep", "/var/lib/tabd-keep", "route") as keeping:
+                    self.assertEqual(next(keeping).split()[0], event)
+                    self.assertEqual(said("chroot", root, "tabd-cli", "--server", port, "read", "route", "alice"), "{route,alice,7}\n")
+        shutil.rmtree(kept)
+
+
+@contextlib.contextmanager
+def started(root: str, *words: str) -> Iterator[IO[str]]:
+    """The output of a program of the folder, run by a user without rights; it is killed after the block."""
+    command = ["chroot", f"--userspec={NOBODY}:{NOBODY}", root, *words]
+    environment = {"PATH": "/usr/sbin:/usr/bin", "PYTHONDONTWRITEBYTECODE": "1"}
+    with subprocess.Popen(command, stdout=subprocess.PIPE, text=True, env=environment) as process:
+        assert process.stdout is not None
+        try:
+            yield process.stdout
+        finally:
+            process.kill()
+
+
+def files_of(root: str) -> Set[str]:
+    """The paths of all files in a folder."""
+    return {os.path.relpath(os.path.join(folder, name), root) for folder, _, names in os.walk(root) for name in names}
 
 
 if __name__ == "__main__":

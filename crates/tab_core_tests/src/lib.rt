@@ -11,6 +11,8 @@ mod events;
 #[cfg(test)]
 mod journal;
 #[cfg(test)]
+mod meeting;
+#[cfg(test)]
 mod one_shots;
 #[cfg(test)]
 mod played;

@@ -1,4 +1,5 @@
-//! A first session's call that is held until a second's was answered.
+//! A first session's call that is held until a second's was answered; and the same on a server that makes calls one after
+//! another, which has to be found.
 
 ghost use Rattle.std.specs.Prelude.{◌≡◌};
 
@@ -21,13 +22,44 @@ pub const LIMITS: Limits = Limits::STANDARD;
 
 const TURNS: u32 = 10_000;
 
+/// If calls are made one after another the second is never answered meanwhile, so a few turns are enough.
+const FEW_TURNS: u32 = 100;
+
 /// Holds session 1's first call until session 2's first was answered, for so many milliseconds at most. Where calls are served
 /// one after another it gives up.
 #[derive(Drop)]
 struct Held<R> {
     rt: R,
+    turns: u32,
     answered: AtomicBool,
     gave_up: AtomicBool,
+}
+
+impl<R: Threads + Clock> Held<R> {
+    fn new(rt: R, turns: u32) -> Held<R> {
+        Held {
+            rt,
+            turns,
+            answered: AtomicBool::new(false),
+            gave_up: AtomicBool::new(false),
+        }
+    }
+
+    /// Whether session 2 was answered while session 1's call waited.
+    fn is_passed(&self) -> bool {
+        self.answered.load(Ordering::SeqCst) && !self.gave_up.load(Ordering::SeqCst)
+    }
+}
+
+/// Whether the flag is set within so many milliseconds.
+fn wait_for<R: Threads + Clock>(rt: &R, flag: &AtomicBool, turns: u32) -> bool {
+    for _ in 0..turns {
+        if flag.load(Ordering::SeqCst) {
+            return true;
+        }
+        thread::sleep(rt, Duration::from_millis(1));
+    }
+    false
 }
 
 impl<R: Threads + Clock> Counts for Held<R> {
@@ -40,16 +72,9 @@ impl<R: Threads + Clock> Counts for Held<R> {
 
 impl<R: Threads + Clock> Gate for Held<R> {
     fn before(&self, session: u32, call: u64) {
-        if session != 1 || call != 1 {
-            return;
+        if session == 1 && call == 1 && !wait_for(&self.rt, &self.answered, self.turns) {
+            self.gave_up.store(true, Ordering::SeqCst);
         }
-        for _ in 0..TURNS {
-            if self.answered.load(Ordering::SeqCst) {
-                return;
-            }
-            thread::sleep(&self.rt, Duration::from_millis(1));
-        }
-        self.gave_up.store(true, Ordering::SeqCst);
     }
 
     fn after(&self, session: u32, call: u64) {
@@ -60,6 +85,43 @@ impl<R: Threads + Clock> Gate for Held<R> {
 }
 
 impl<R: Threads + Clock> Notes for Held<R> {
+    fn note(&self, _note: Note) {}
+
+    fn fault(&self, _error: &io::Error) {}
+}
+
+/// Makes a server wrong: a call of session 2 is made after session 1's, as by an accept loop that serves one after another.
+#[derive(Drop)]
+struct InTurn<R> {
+    held: Held<R>,
+    is_first_answered: AtomicBool,
+}
+
+impl<R: Threads + Clock> Counts for InTurn<R> {
+    fn count(&self, _count: Count, _many: u64) {}
+
+    fn begin(&self, _session: u32) {}
+
+    fn end(&self, _session: u32) {}
+}
+
+impl<R: Threads + Clock> Gate for InTurn<R> {
+    fn before(&self, session: u32, call: u64) {
+        if session != 1 {
+            wait_for(&self.held.rt, &self.is_first_answered, TURNS);
+        }
+        self.held.before(session, call);
+    }
+
+    fn after(&self, session: u32, call: u64) {
+        if session == 1 {
+            self.is_first_answered.store(true, Ordering::SeqCst);
+        }
+        self.held.after(session, call);
+    }
+}
+
+impl<R: Threads + Clock> Notes for InTurn<R> {
     fn note(&self, _note: Note) {}
 
     fn fault(&self, _error: &io::Error) {}
@@ -161,7 +223,12 @@ where
     Ok(right && served.load(Ordering::SeqCst) == 1)
 }
 
-fn run_named<J, R>(rt: &R, alloc: Global, opened: Opened<Channel>) -> Result<bool, Fail>
+fn run_named<J, R, G>(
+    rt: &R,
+    alloc: Global,
+    opened: Opened<Channel>,
+    gate: &G,
+) -> Result<bool, Fail>
 where
     J: Naming + Send + Sync,
     R: Net<Listener = TcpListener, Stream = TcpStream>
@@ -171,21 +238,28 @@ where
         + Copy
         + Send
         + Sync,
+    G: Gate + Notes + Sync,
     requires { opened ≡ J.book }
 {
-    let gate = Held {
-        rt: *rt,
-        answered: AtomicBool::new(false),
-        gave_up: AtomicBool::new(false),
-    };
-    let right = run((*rt, PhantomData::<J>), rt, alloc, opened, &gate)?;
-    let in_turn = gate.gave_up.load(Ordering::SeqCst);
-    Ok(right && gate.answered.load(Ordering::SeqCst) && !in_turn)
+    run((*rt, PhantomData::<J>), rt, alloc, opened, gate)
 }
 
 #[test]
 fn connections_are_served_side_by_side(rt: HostRuntime) -> Result<(), Fail> {
-    let right = run_named::<Brand, _>(&rt, rt.alloc(), Opened::new())?;
-    assert!(rt; right);
+    let gate = Held::new(rt, TURNS);
+    let right = run_named::<Brand, _, _>(&rt, rt.alloc(), Opened::new(), &gate)?;
+    assert!(rt; right && gate.is_passed());
+    Ok(())
+}
+
+/// Both are answered, and the gate gave up.
+#[test]
+fn calls_that_are_made_one_after_another_are_found(rt: HostRuntime) -> Result<(), Fail> {
+    let gate = InTurn {
+        held: Held::new(rt, FEW_TURNS),
+        is_first_answered: AtomicBool::new(false),
+    };
+    let right = run_named::<Brand, _, _>(&rt, rt.alloc(), Opened::new(), &gate)?;
+    assert!(rt; right && !gate.held.is_passed());
     Ok(())
 }

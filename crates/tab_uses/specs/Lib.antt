@@ -5,3 +5,4 @@ pub mod Mirrors
 pub mod Endings
 pub mod Tables
 pub mod Outboxes
+pub mod Mailboxes

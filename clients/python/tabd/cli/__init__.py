@@ -6,6 +6,8 @@ status. Errors are one line on standard error, with status 1; wrong arguments ha
 from __future__ import annotations
 
 import argparse
+import contextlib
+import io
 import os
 import sys
 from typing import Any, List, Optional
@@ -13,7 +15,7 @@ from typing import Any, List, Optional
 import tabd
 
 from . import bench, dump, keep, records, top, watch
-from .common import Failure, Usage, explain
+from .common import Failure, Usage, explain, flush
 
 GROUPS = (records, watch, top, bench, dump, keep)
 
@@ -39,25 +41,44 @@ def parser() -> argparse.ArgumentParser:
 
 
 def _silence() -> None:
-    """Discards the rest of standard output's buffer after its reader has closed it."""
-    os.dup2(os.open(os.devnull, os.O_WRONLY), sys.stdout.fileno())
+    """Discards the rest of standard output's buffer if it can't be written: its reader has closed it, or its disk is full."""
+    try:
+        sys.stdout.flush()
+    except OSError:
+        with contextlib.suppress(OSError, ValueError):
+            os.dup2(os.open(os.devnull, os.O_WRONLY), sys.stdout.fileno())
+
+
+def _check_streams() -> None:
+    """A stream that was closed at the start is None: output must not be lost. A character that the locale doesn't have is escaped."""
+    if sys.stdout is None:
+        raise Failure("standard output is closed")
+    for stream in (sys.stdout, sys.stderr):
+        if isinstance(stream, io.TextIOWrapper):
+            stream.reconfigure(errors="backslashreplace")
 
 
 def main(arguments: Optional[List[str]] = None) -> int:
     """Runs a command and gives its status."""
+    if sys.stderr is None:
+        # It was closed at the start: errors are not shown.
+        sys.stderr = open(os.devnull, "w")
     words = parser().parse_args(arguments)
     try:
+        _check_streams()
         status: int = words.function(words)
-        sys.stdout.flush()
+        flush()
         return status
-    except Usage as error:
-        print(f"tabd-cli {words.command}: {error}", file=sys.stderr)
-        return 2
     except BrokenPipeError:
-        _silence()
-        return 1
+        status, text = 1, ""
+    except Usage as error:
+        status, text = 2, str(error)
     except (tabd.Error, Failure, OSError) as error:
-        print(f"tabd-cli {words.command}: {explain(error)}", file=sys.stderr)
-        return 1
+        status, text = 1, explain(error)
     except KeyboardInterrupt:
-        return 130
+        status, text = 130, "interrupted"
+    if sys.stdout is not None:
+        _silence()
+    if text:
+        print(f"tabd-cli {words.command}: {text}", file=sys.stderr)
+    return status

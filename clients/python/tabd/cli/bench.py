@@ -10,13 +10,14 @@ import contextlib
 import multiprocessing
 import os
 import random
+import signal
 import time
-from typing import Any, Callable, Dict, List, Tuple, Union
+from typing import Any, Callable, Dict, Iterator, List, Tuple, Union
 
 import tabd
 
-from .common import Failure, Progress, fraction, number, say_object, server_of
-from .wire import Wire, frame, refuse
+from .common import Failure, Progress, ending, fraction, number, say_line, say_object, server_of
+from .wire import UNDO_SECONDS, Wire, frame, refuse
 
 # Each bucket ends at 1.25 times the one before it, from 10 microseconds to ten seconds.
 EDGES = [10e-6 * 1.25**step for step in range(63)]
@@ -57,7 +58,7 @@ def _work(address: Tuple[Union[int, str], str], requests: List[bytes], seconds: 
                 then, now = now, time.monotonic()
                 counts[_bucket(now - then)] += 1
                 counts[-1] = at = at + 1
-    except (tabd.Error, KeyboardInterrupt):
+    except tabd.Error:
         # The program says so, on one line.
         raise SystemExit(1) from None
 
@@ -82,6 +83,22 @@ def histogram(counts: List[int]) -> List[str]:
     ]
 
 
+@contextlib.contextmanager
+def _running(workers: List[multiprocessing.Process]) -> Iterator[None]:
+    """Starts the processes, and ends them. Ctrl-C is sent to all processes of the terminal, and only this one heeds it."""
+    before = signal.pthread_sigmask(signal.SIG_BLOCK, {signal.SIGINT})
+    try:
+        for worker in workers:
+            worker.start()
+        signal.pthread_sigmask(signal.SIG_SETMASK, before)
+        yield
+    finally:
+        signal.pthread_sigmask(signal.SIG_SETMASK, before)
+        for worker in workers:
+            worker.terminate()
+            worker.join()
+
+
 def _run(words: argparse.Namespace, address: Tuple[Union[int, str], str], table: str) -> List[int]:
     """The requests in each bucket."""
     progress, chance = Progress(), random.Random(words.seed)
@@ -91,15 +108,14 @@ def _run(words: argparse.Namespace, address: Tuple[Union[int, str], str], table:
         multiprocessing.Process(target=_work, args=(address, _requests(words, table, chance), words.seconds, counter), daemon=True)
         for counter in counters
     ]
-    for worker in workers:
-        worker.start()
-    before = 0
-    while any(worker.is_alive() for worker in workers):
-        time.sleep(STEP_SECONDS)
-        done = sum(counter[-1] for counter in counters)
-        progress.show(f"{time.monotonic() - start:5.1f} s  {(done - before) / STEP_SECONDS:10,.0f} requests a second")
-        before = done
-    progress.end()
+    with _running(workers):
+        before = 0
+        while any(worker.is_alive() for worker in workers):
+            time.sleep(STEP_SECONDS)
+            done = sum(counter[-1] for counter in counters)
+            progress.show(f"{time.monotonic() - start:5.1f} s  {(done - before) / STEP_SECONDS:10,.0f} requests a second")
+            before = done
+        progress.end()
     if any(worker.exitcode for worker in workers):
         raise Failure("a connection was refused, or has ended")
     return [sum(counter[bucket] for counter in counters) for bucket in range(len(EDGES))]
@@ -108,13 +124,14 @@ def _run(words: argparse.Namespace, address: Tuple[Union[int, str], str], table:
 def bench(words: argparse.Namespace) -> int:
     port, host = server_of(words)
     table = f"tabd_bench_{os.getpid()}"
-    with Wire(port, host) as wire:
+    with ending(), Wire(port, host) as wire:
         refuse(wire.ask(("create_table", table, [])))
         try:
             counts = _run(words, (port, host), table)
         finally:
-            with contextlib.suppress(tabd.Error):
-                wire.ask(("delete_table", table))
+            # A new connection: a reply may be under way on the other.
+            with contextlib.suppress(tabd.Error), Wire(port, host, UNDO_SECONDS) as undo:
+                undo.ask(("delete_table", table))
     total = sum(counts)
     if not total:
         raise Failure("no request was answered")
@@ -122,7 +139,7 @@ def bench(words: argparse.Namespace) -> int:
     quantiles: Dict[str, Any] = {name: int(quantile(counts, part) * 1e6) for name, part in (("p50", 0.5), ("p99", 0.99), ("p999", 0.999))}
     say_object(words, {"requests": total, "requests_a_second": rate, **{f"{name}_microseconds": each for name, each in quantiles.items()}})
     if not words.json:
-        print("\n".join(histogram(counts)))
+        say_line("\n".join(histogram(counts)))
     return 0
 
 

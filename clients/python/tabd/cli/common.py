@@ -3,10 +3,12 @@
 from __future__ import annotations
 
 import argparse
+import contextlib
 import json
 import os
+import signal
 import sys
-from typing import Any, Callable, Dict, Optional, Tuple, Type, Union
+from typing import Any, Callable, Dict, Iterator, Optional, Tuple, Type, Union
 
 import tabd
 
@@ -27,6 +29,7 @@ MEANINGS: Dict[Type[tabd.Refused], str] = {
 
 
 MOST = 1 << 62
+OUTPUT = "standard output"
 
 
 class Failure(Exception):
@@ -40,12 +43,42 @@ class Usage(Exception):
 def explain(error: Exception) -> str:
     """An error on one line."""
     text = str(error)
-    if isinstance(error, tabd.Refused):
-        text = error.reason if isinstance(error, tabd.BadTerm) and isinstance(error.reason, str) else show(error.reason)
+    if isinstance(error, tabd.BadTerm) and isinstance(error.reason, str):
+        # The client's own text; the server was asked nothing.
+        text = error.reason
+    elif isinstance(error, tabd.Refused):
+        text = show(error.reason)
         for kind, meaning in MEANINGS.items():
             if isinstance(error, kind):
                 text = f"{text}: {meaning}"
+    elif isinstance(error, OSError) and error.strerror:
+        text = error.strerror if error.filename is None else f"{error.filename or repr('')}: {error.strerror}"
     return " ".join(text.split()) or type(error).__name__
+
+
+@contextlib.contextmanager
+def naming(path: str) -> Iterator[None]:
+    """An error of the system gets the name of the file that the user knows."""
+    try:
+        yield
+    except OSError as error:
+        if error.errno is None or isinstance(error, tabd.Error):
+            raise
+        raise OSError(error.errno, error.strerror, path) from error
+
+
+@contextlib.contextmanager
+def ending() -> Iterator[None]:
+    """SIGTERM ends the block as an exception does, so that it removes what it began."""
+
+    def end(*_: object) -> None:
+        sys.exit(128 + signal.SIGTERM)
+
+    before = signal.signal(signal.SIGTERM, end)
+    try:
+        yield
+    finally:
+        signal.signal(signal.SIGTERM, before)
 
 
 def address(text: str) -> Tuple[Union[int, str], str]:
@@ -79,19 +112,31 @@ def term_of(text: str) -> Any:
         raise Usage(str(fault)) from None
 
 
+def say_line(text: str) -> None:
+    """A line in one write, so that a program that is killed has written it whole or not at all, also if its output is not buffered."""
+    with naming(OUTPUT):
+        sys.stdout.write(text + "\n")
+
+
+def flush() -> None:
+    """Writes what is buffered."""
+    with naming(OUTPUT):
+        sys.stdout.flush()
+
+
 def say(words: argparse.Namespace, term: Any) -> None:
     """A term on a line of its own, or with --json as JSON."""
-    print(json.dumps(plain(term), ensure_ascii=False) if words.json else show(term))
+    say_line(json.dumps(plain(term), ensure_ascii=False) if words.json else show(term))
 
 
 def say_object(words: argparse.Namespace, named: Dict[str, Any]) -> None:
     """Named values: a line for each, or with --json one object."""
     if words.json:
-        print(json.dumps({name: plain(value) for name, value in named.items()}, ensure_ascii=False))
+        say_line(json.dumps({name: plain(value) for name, value in named.items()}, ensure_ascii=False))
         return
     width = max(map(len, named)) + 2
     for name, value in named.items():
-        print(f"{name + ':':{width}}{show(value)}")
+        say_line(f"{name + ':':{width}}{show(value)}")
 
 
 def number(least: int, most: int = MOST) -> Callable[[str], int]:

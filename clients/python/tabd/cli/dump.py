@@ -30,13 +30,13 @@ import contextlib
 import hashlib
 import os
 import time
-from typing import IO, Any, Callable, Dict, Iterator, List, NamedTuple, Sequence, Tuple
+from typing import IO, Any, Callable, Dict, Iterator, List, NamedTuple, Optional, Sequence, Tuple
 
 import tabd
 
-from .common import Failure, Progress, say_object, server_of
+from .common import Failure, Progress, ending, naming, say_object, server_of
 from .load import Loader
-from .wire import LONGEST_HEAD, PIECE, Batch, Dumped, Wire, dumped, elements, frame, refuse
+from .wire import LONGEST_HEAD, PIECE, UNDO_SECONDS, Batch, Dumped, Wire, dumped, elements, frame, refuse
 
 END_BYTES = len(frame(("tabd_dump_end", bytes(32))))
 REST_SECONDS = 0.005
@@ -88,11 +88,20 @@ def definition(wire: Wire, name: str) -> Definition:
     return Definition(name, kind, attributes, index)
 
 
-class Taking:
-    """Tables that are written to a file as they arrive. `told` is called with everything else that arrives meanwhile."""
+class Calls(NamedTuple):
+    """What is called while a dump is taken: `told` with what arrives besides replies and dumps, `ready` before the file gets its name, which it
+    may refuse, and `written` with a table's dump, the bytes of it that are in the file, and its bytes in all."""
 
-    def __init__(self, wire: Wire, names: Sequence[str], out: Summed, told: Callable[[Any], None]) -> None:
-        self.wire, self.names, self.out, self.other = wire, names, out, told
+    told: Callable[[Any], object] = lambda item: None
+    ready: Callable[[], object] = lambda: None
+    written: Callable[[Dumped, int, int], object] = lambda item, size, whole: None
+
+
+class Taking:
+    """Tables that are written to a file as they arrive."""
+
+    def __init__(self, wire: Wire, names: Sequence[str], out: Summed, calls: Calls) -> None:
+        self.wire, self.names, self.out, self.calls = wire, names, out, calls
         self.definitions: Dict[str, Definition] = {}
         self.counts: Dict[str, int] = {}
 
@@ -133,12 +142,15 @@ class Taking:
 
     def told(self, item: Any) -> None:
         if not isinstance(item, Dumped):
-            self.other(item)
+            self.calls.told(item)
             return
         self.counts[item.table] = item.records
         self.out.write(frame(("table", *self.definitions[item.table]._replace(records=item.records))))
+        size, whole = 0, self.wire.left
         for piece in self.wire.body():
             self.out.write(piece)
+            size += len(piece)
+            self.calls.written(item, size, whole)
 
 
 class Taken(NamedTuple):
@@ -149,24 +161,25 @@ class Taken(NamedTuple):
     size: int
 
 
-def take(
-    connect: Callable[[], Wire], names: Sequence[str], path: str, told: Callable[[Any], None], ready: Callable[[], object] = lambda: None
-) -> Tuple[Wire, Taken]:
-    """Writes a dump to a path, as a whole or not at all; gives its connection too, which has subscribed to the tables. `ready` is called
-    before the file gets its name, and may refuse it."""
+def take(connect: Callable[[], Wire], names: Sequence[str], path: str, calls: Calls) -> Tuple[Wire, Taken]:
+    """Writes a dump to a path, as a whole or not at all; gives its connection too, which has subscribed to the tables."""
+    if os.path.exists(path) and not os.path.isfile(path):
+        # A rename would replace it.
+        raise Failure(f"{path} is no regular file")
     part = os.path.join(os.path.dirname(path), f".{os.path.basename(path)}.{os.getpid()}.part")
     try:
         for together in (True, False):
             wire = connect()
             try:
-                with open(part, "wb") as file:
-                    taking = Taking(wire, names, Summed(file), told)
-                    commit = taking.run(together)
-                    file.flush()
-                    os.fsync(file.fileno())
-                ready()
-                os.rename(part, path)
-                fsync_folder(path)
+                with naming(path):
+                    with open(part, "wb") as file:
+                        taking = Taking(wire, names, Summed(file), calls)
+                        commit = taking.run(together)
+                        file.flush()
+                        os.fsync(file.fileno())
+                    calls.ready()
+                    os.rename(part, path)
+                    fsync_folder(path)
                 return wire, Taken(commit, taking.counts, taking.out.size + END_BYTES)
             except tabd.OutboxFull:
                 wire.close()
@@ -277,6 +290,10 @@ def make(wire: Wire, table: Definition) -> None:
     refuse(wire.ask(("create_table", table.name, options)))
 
 
+def is_empty(wire: Wire, name: str) -> bool:
+    return bool(refuse(wire.ask(("table_info", name, "size"))) == 0)
+
+
 def exists(wire: Wire, name: str) -> bool:
     try:
         refuse(wire.ask(("table_info", name, "size")))
@@ -289,21 +306,31 @@ def fill(connect: Callable[[], Wire], source: Source, said: Callable[[int], None
     """Creates a dump's tables and writes their records. If it fails, and the server goes on, it deletes the tables that it created."""
     for careful in (False, True):
         made: List[str] = []
+        begun: Optional[Definition] = None
         with connect() as wire:
             try:
                 loader = Loader(wire, careful, said)
-                for table in source.tables:
-                    make(wire, table)
-                    made.append(table.name)
-                    loader.load(source.records(table.name))
+                for begun in source.tables:
+                    make(wire, begun)
+                    made.append(begun.name)
+                    loader.load(source.records(begun.name))
                     loader.finish()
                 return
             except BaseException as error:
-                with connect() as undo, contextlib.suppress(tabd.Error):
-                    for name in made:
-                        undo.ask(("delete_table", name))
+                with contextlib.suppress(tabd.Error), connect() as undo:
+                    undo.socket.settimeout(UNDO_SECONDS)
+                    _undo(undo, made, begun)
                 if careful or not isinstance(error, tabd.BadTerm):
                     raise
+
+
+def _undo(wire: Wire, made: List[str], begun: Optional[Definition]) -> None:
+    """Deletes the tables that were made. If no reply came to the creation of the last one, it is deleted if it is as it would have been made."""
+    for name in made:
+        wire.ask(("delete_table", name))
+    if begun is not None and begun.name not in made and exists(wire, begun.name):
+        if definition(wire, begun.name) == begun._replace(records=0) and is_empty(wire, begun.name):
+            wire.ask(("delete_table", begun.name))
 
 
 # The commands
@@ -312,7 +339,17 @@ def fill(connect: Callable[[], Wire], source: Source, said: Callable[[int], None
 def dump(words: argparse.Namespace) -> int:
     port, host = server_of(words)
     names = list(dict.fromkeys(words.table))
-    wire, taken = take(lambda: Wire(port, host), names, os.path.abspath(words.file), lambda item: None)
+    progress = Progress()
+
+    def written(item: Dumped, size: int, whole: int) -> None:
+        progress.show(f"{item.table}: {100 * size // whole} % of {item.records} records")
+
+    progress.show("waits for the tables' read locks")
+    with ending():
+        try:
+            wire, taken = take(lambda: Wire(port, host), names, os.path.realpath(words.file), Calls(written=written))
+        finally:
+            progress.end()
     wire.close()
     say_object(words, {"commit": taken.commit, "tables": len(names), "records": sum(taken.counts.values()), "bytes": taken.size})
     return 0
@@ -321,7 +358,7 @@ def dump(words: argparse.Namespace) -> int:
 def restore(words: argparse.Namespace) -> int:
     port, host = server_of(words)
     progress = Progress()
-    with opened(words.file) as source, Wire(port, host) as wire:
+    with ending(), opened(words.file) as source, Wire(port, host) as wire:
         there = [table.name for table in source.tables if exists(wire, table.name)]
         if there and not words.replace:
             raise Failure(f"there is a table {there[0]} already, and nothing was changed (--replace deletes it first)")

@@ -25,8 +25,8 @@ from typing import Any, Callable, Dict, List, NamedTuple, Optional, Tuple, Union
 
 import tabd
 
-from .common import Failure, fraction, say_object, server_of
-from .dump import Definition, Source, definition, exists, make, opened, take
+from .common import Failure, flush, fraction, say_line, say_object, server_of
+from .dump import Calls, Definition, Source, definition, exists, is_empty, make, opened, take
 from .load import Loader
 from .store import Store
 from .wire import Batch, Wire, commit_of, frame, refuse
@@ -77,8 +77,8 @@ class Keeper:
         if self.settings.json:
             say_object(argparse.Namespace(json=True), {"event": event, "commit": commit, **more})
         else:
-            print(event, commit, *[f"{name}={value}" for name, value in more.items()])
-        sys.stdout.flush()
+            say_line(" ".join([event, str(commit), *[f"{name}={value}" for name, value in more.items()]]))
+        flush()
 
     def note(self, text: str) -> None:
         print(f"tabd-cli keep: {text}", file=sys.stderr, flush=True)
@@ -87,6 +87,7 @@ class Keeper:
 
     def run(self) -> None:
         """Runs until the process is ended; only an error from which it can't recover ends it."""
+        self._check_names()
         noted = ""
         while True:
             try:
@@ -99,6 +100,15 @@ class Keeper:
                 # A table went before it was locked, or a transaction holds a lock in one that is to be deleted.
                 pass
             time.sleep(PAUSE_SECONDS)
+
+    def _check_names(self) -> None:
+        """A table of the folder that is not named would not be in the next dump, and would be lost."""
+        if self.store.is_empty:
+            return
+        with opened(self.store.dump_path(self.store.generation)) as source:
+            for table in source.tables:
+                if table.name not in self.names:
+                    raise Failure(f"the folder has table {table.name} too: name it, or take another folder")
 
     def _serve(self) -> None:
         """Brings the server's tables and the folder together, then follows until the connection ends."""
@@ -198,7 +208,7 @@ class Keeper:
         for table in tables:
             if not exists(side, table.name):
                 continue
-            if definition(side, table.name) == table._replace(records=0) and refuse(side.ask(("table_info", table.name, "size"))) == 0:
+            if definition(side, table.name) == table._replace(records=0) and is_empty(side, table.name):
                 continue
             if self.settings.foreign == "server":
                 self.note("keeps the server's tables; the folder's are set aside")
@@ -217,7 +227,7 @@ class Keeper:
         self.definitions = {name: definition(side, name) for name in names}
         # The dump uses another connection. As long as this one gets replies, no other server is at the address: a dump of a server that was
         # started meanwhile, and has not been restored, must not replace the older dump.
-        wire, taken = take(self._connect_anew, names, self.store.begin(), self._told, lambda: side.ask("commit"))
+        wire, taken = take(self._connect_anew, names, self.store.begin(), Calls(self._told, lambda: side.ask("commit")))
         self.store.begun()
         self.dump_size, self.last = taken.size, taken.commit
         self.say("kept", taken.commit, tables=len(names), records=sum(taken.counts.values()))
@@ -307,7 +317,9 @@ def keep(words: argparse.Namespace) -> int:
         words.quiet,
         words.json,
     )
-    Keeper(server_of(words), Store(words.folder), settings).run()
+    address = server_of(words)
+    with Store(words.folder) as store:
+        Keeper(address, store, settings).run()
     return 0
 
 

@@ -7,7 +7,7 @@ from typing import Any, Callable, List, Union
 
 import tabd
 
-from .common import Failure, Usage, client_of, say, say_object, server_of, term_of
+from .common import Failure, Usage, client_of, say, say_line, say_object, server_of, term_of
 from .dump import records_of
 from .metrics import add_metrics, by_table, page_of
 from .wire import Wire
@@ -110,7 +110,7 @@ def tables(words: argparse.Namespace) -> int:
         if words.json:
             say_object(words, {"table": name, "records": int(found[name])})
         else:
-            print(f"{name}\t{int(found[name])}")
+            say_line(f"{name}\t{int(found[name])}")
     return 0
 
 

@@ -28,11 +28,13 @@ import struct
 import zlib
 from typing import IO, Iterator, Optional
 
-from .common import Failure
+from .common import Failure, naming
 from .dump import fsync_folder, opened
 from .wire import commit_of, operations
 
 CHUNK = struct.Struct(">II")
+# What a folder may have before it is a keeper's: what a keeper made that was killed at once, and what a file system has.
+EMPTY = {"lock", "token.part", "lost+found"}
 
 
 class Store:
@@ -41,15 +43,33 @@ class Store:
     def __init__(self, folder: str) -> None:
         self.folder = folder
         os.makedirs(folder, exist_ok=True)
+        names = set(os.listdir(folder))
+        if "token" not in names and not names <= EMPTY:
+            raise Failure(f"{folder} has other files, and no keeper's: take an empty folder")
         self.locked = open(self.path("lock"), "w")
-        try:
-            fcntl.flock(self.locked, fcntl.LOCK_EX | fcntl.LOCK_NB)
-        except OSError as error:
-            raise Failure(f"a keeper runs in {folder} already") from error
-        self.token = self._token()
-        self.generation = self._newest()
         self.log: Optional[IO[bytes]] = None
         self.log_size = 0
+        try:
+            self._lock()
+            self.token = self._token()
+            self.generation = self._newest()
+        except BaseException:
+            self.locked.close()
+            raise
+
+    def __enter__(self) -> Store:
+        return self
+
+    def __exit__(self, *_: object) -> None:
+        with contextlib.suppress(OSError):
+            self.close()
+        self.locked.close()
+
+    def _lock(self) -> None:
+        try:
+            fcntl.flock(self.locked, fcntl.LOCK_EX | fcntl.LOCK_NB)
+        except BlockingIOError as error:
+            raise Failure(f"a keeper runs in {self.folder} already") from error
 
     def path(self, name: str) -> str:
         return os.path.join(os.path.abspath(self.folder), name)
@@ -66,12 +86,13 @@ class Store:
         with contextlib.suppress(FileNotFoundError), open(path, "rb") as file:
             return file.read()
         token = secrets.token_hex(8).encode()
-        with open(path + ".part", "wb") as file:
-            file.write(token)
-            file.flush()
-            os.fsync(file.fileno())
-        os.rename(path + ".part", path)
-        fsync_folder(path)
+        with naming(path):
+            with open(path + ".part", "wb") as file:
+                file.write(token)
+                file.flush()
+                os.fsync(file.fileno())
+            os.rename(path + ".part", path)
+            fsync_folder(path)
         return token
 
     def _newest(self) -> int:
@@ -87,25 +108,27 @@ class Store:
         """Begins the next generation's log, and gives the path to which its dump is to be renamed."""
         self.close()
         path = self.log_path(self.generation + 1)
-        self.log, self.log_size = open(path, "wb"), 0
-        os.fsync(self.log.fileno())
-        fsync_folder(path)
+        with naming(path):
+            self.log, self.log_size = open(path, "wb"), 0
+            os.fsync(self.log.fileno())
+            fsync_folder(path)
         return self.dump_path(self.generation + 1)
 
     def begun(self) -> None:
         """The next generation's dump is there: the older ones aren't wanted any more."""
         self.generation += 1
         for name in os.listdir(self.folder):
-            match = re.fullmatch(r"(\d+)\.(?:dump|log)|\..*\.part", name)
+            match = re.fullmatch(r"(\d+)\.(?:dump|log)|\.\d+\.dump\.\d+\.part", name)
             if match is not None and match.group(1) != str(self.generation):
                 os.remove(self.path(name))
 
     def append(self, frames: bytes) -> None:
         """Writes whole batches, and returns when they are on the disk."""
         assert self.log is not None
-        self.log.write(CHUNK.pack(len(frames), zlib.crc32(frames)) + frames)
-        self.log.flush()
-        os.fdatasync(self.log.fileno())
+        with naming(self.log.name):
+            self.log.write(CHUNK.pack(len(frames), zlib.crc32(frames)) + frames)
+            self.log.flush()
+            os.fdatasync(self.log.fileno())
         self.log_size += CHUNK.size + len(frames)
 
     def set_aside(self) -> None:

@@ -8,7 +8,7 @@ import sys
 import time
 from typing import Callable, Dict, List
 
-from .common import fraction, number
+from .common import flush, fraction, number, say_line
 from .metrics import add_metrics, by_table, page_of
 
 # The rates, by the counter that each is made of, and what is shown as it is.
@@ -56,12 +56,11 @@ def top(words: argparse.Namespace) -> int:
     while True:
         page, now = page_of(words), time.monotonic()
         if words.json:
-            print(json.dumps(page))
+            say_line(json.dumps(page))
         else:
-            if sys.stdout.isatty():
-                sys.stdout.write("\x1b[H\x1b[J")
-            print("\n".join(lines_of(page, before, now - then if before else 0.0)))
-        sys.stdout.flush()
+            clear = "\x1b[H\x1b[J" if sys.stdout.isatty() else ""
+            say_line(clear + "\n".join(lines_of(page, before, now - then if before else 0.0)))
+        flush()
         before, then = page, now
         left -= 1
         if left == 0:

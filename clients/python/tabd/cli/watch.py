@@ -4,12 +4,11 @@ from __future__ import annotations
 
 import argparse
 import json
-import sys
 from typing import Any, Callable, Dict, Tuple
 
 import tabd
 
-from .common import client_of, number
+from .common import client_of, flush, number, say_line
 from .text import plain, show
 
 
@@ -35,20 +34,20 @@ def described(event: tabd.Event) -> Tuple[str, Dict[str, Any]]:
 def say_event(words: argparse.Namespace, event: tabd.Event) -> None:
     word, parts = described(event)
     if words.json:
-        print(json.dumps({"event": word, **{name: plain(part) for name, part in parts.items()}}, ensure_ascii=False))
+        say_line(json.dumps({"event": word, **{name: plain(part) for name, part in parts.items()}}, ensure_ascii=False))
         return
     records = parts.pop("records", ())
-    print(word, *[f"{name}={show(part)}" for name, part in parts.items()])
+    say_line(" ".join([word, *[f"{name}={show(part)}" for name, part in parts.items()]]))
     for record in records:
-        print("  " + show(record))
+        say_line("  " + show(record))
 
 
 def watch(words: argparse.Namespace) -> int:
     left = words.count
-    with client_of(words) as client, client.events(*words.table, dump=words.dump, detailed=words.detailed) as events:
+    with client_of(words) as client, client.events(*dict.fromkeys(words.table), dump=words.dump, detailed=words.detailed) as events:
         for event in events:
             say_event(words, event)
-            sys.stdout.flush()
+            flush()
             left -= 1
             if left == 0:
                 break

@@ -11,9 +11,12 @@ import struct
 from typing import Any, Callable, Dict, Iterable, Iterator, List, NamedTuple, Optional, Tuple, Type, Union
 
 import tabd
+from ..wire import GREETING, check_served
 
 # A server that accepts no more connections still lets the system open them, and says nothing on them.
 OPENING_SECONDS = 10.0
+# So long a command that failed waits while it removes what it began.
+UNDO_SECONDS = 10.0
 PIECE = 1 << 18
 # Bytes of a request's payload, at most, and operations of a one-shot.
 MOST_BYTES, MOST_OPERATIONS = 1_048_576, 1_000
@@ -75,11 +78,17 @@ class Wire:
 
     def __init__(self, port: Union[int, str], host: str, timeout: Optional[float] = None) -> None:
         self.buffer, self.at, self.left = b"", 0, 0
+        self.name = port if isinstance(port, str) else f"{host}:{port}"
         try:
             self.socket = self._opened(port, host)
         except OSError as error:
-            raise tabd.NotConnected(f"no connection to {port if isinstance(port, str) else f'{host}:{port}'}: {error}") from error
-        self._greet(timeout)
+            raise tabd.NotConnected(f"no connection to {self.name}: {error}") from error
+        try:
+            self._greet()
+        except BaseException:
+            self.close()
+            raise
+        self.socket.settimeout(timeout)
 
     @staticmethod
     def _opened(port: Union[int, str], host: str) -> socket.socket:
@@ -96,15 +105,18 @@ class Wire:
             raise
         return opened
 
-    def _greet(self, timeout: Optional[float]) -> None:
+    def _greet(self) -> None:
         """Any request shows that the connection is served, and this one changes nothing."""
         try:
-            if self.ask("commit") != ("error", "no_transaction"):
-                raise tabd.Closed("the server serves no more connections")
-        except tabd.Closed as error:
-            self.close()
-            raise tabd.NotServed("the server serves no more connections") from error
-        self.socket.settimeout(timeout)
+            # What was refused may be closed already, and the refusal is still to be read.
+            with contextlib.suppress(tabd.Closed):
+                self.send(frame(GREETING))
+            reply = self.reply()
+        except tabd.TimedOut as error:
+            raise tabd.ConnectTimeout(f"{self.name} did not answer within {OPENING_SECONDS:g} s") from error
+        except (tabd.Closed, ValueError, IndexError, TypeError) as error:
+            raise tabd.NotConnected(f"{self.name} has closed the connection, or is no tabd server") from error
+        check_served(reply)
 
     def close(self) -> None:
         with contextlib.suppress(OSError):

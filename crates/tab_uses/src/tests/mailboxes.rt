@@ -18,9 +18,10 @@ fn comes_out<H: Host>(rt: H, alloc: Global, opened: Opened<Channel>) -> Result<b
     let (register, mut prefix) = opened.named();
     let mark = Item::Ended(Atom::from_short_text(alloc, "t")?, Ending::Deleted);
     let mark = SharedItem::new(alloc, mark)?;
-    match handed_over(rt, alloc, &register, &mut prefix, mark)? {
-        Some(taken) => Ok(matches!(taken.item(), Item::Ended(_, Ending::Deleted))),
-        None => Ok(false),
+    let (_post, _inbox, taken) = handed_over(rt, alloc, &register, &mut prefix, mark)?;
+    match taken {
+        Ok(taken) => Ok(matches!(taken.item(), Item::Ended(_, Ending::Deleted))),
+        Err(_) => Ok(false),
     }
 }
 

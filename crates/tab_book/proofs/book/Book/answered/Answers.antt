@@ -42,9 +42,9 @@ returns g c =
           c.holdup-before.ensures c.retries-retries.ensures done.step.core c.lets_go-releases.ensures.ended c.lets_go-releases.ensures.dropped c.lets_go-releases.ensures.restarted c.reply.ensures;
       transaction =
           c.transition-transaction.ensures
-          ∙ ap (λ (s : Standing). after s c.ends_session-leaves.result c.reply.result.now) c.standing-stood.ensures
-          ∙ ap (λ l. after (stood old.state) l c.reply.result.now) c.ends_session-leaves.ensures
-          ∙ ap (after (stood old.state) (is_leave a)) c.reply.ensures;
+          ∙ ap (λ (s : Standing). after s c.ends_session-leaves.result c.reply-2.result.now) c.standing-stood.ensures
+          ∙ ap (λ l. after (stood old.state) l c.reply-2.result.now) c.ends_session-leaves.ensures
+          ∙ ap (after (stood old.state) (is_leave a)) c.reply-2.ensures;
     }
   where
     stood : State → Standing
