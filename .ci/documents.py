@@ -4,13 +4,14 @@
     documents.py PROGRAM
     documents.py --write | --reset
 
-Of the documents at the top, docs/*.md and the clients' README.md: each file that is named in backticks or by a link is in the
+Of the documents at the top, docs/*.md and the README.md of crates and clients: each file that is named in backticks or by a link is in the
 repository; so is each section that is named with its document, and each crate, function, type and definition (`Type::function` in
-an `impl` of that type, in a table's row that names one file in that file, and under a heading of a crate as a word of its code,
+an `impl` of that type, in a table's row that names one file in that file, and in a crate's README.md as a word of its code,
 or of tab_model's or tab_proto's); each `--option` is in the program's help, in that of `rt`, in tests/conftest.py, in the text of a
-script that the same line names, or, on the page of tabd-cli, in its sources. docs/MAP.md has each file of definitions. The frames of
-docs/PROTOCOL.md, "Bytes", are sent as printed, and are the encoding of the terms next to them. One line reports each fault; the last line is
-`N passed, M failed`, and the status is 1 if one failed. It takes some seconds.
+script that the same line names, or, on the page of tabd-cli, in its sources. Each file of definitions has a comment, and each crate a
+README.md. The frames of docs/PROTOCOL.md, "Bytes", are sent as printed, and are the encoding of the terms next to them. A line has one
+sentence and at most 160 columns, and a table's cell at most 120 characters, except in tables that a program writes. One line reports each
+fault; the last line is `N passed, M failed`, and the status is 1 if one failed. It takes some seconds.
 
 No word of the table in CONTRIBUTING.md, "Write", is used more often than .ci/words.tsv allows. `--write` lowers its numbers to the current
 counts, and `--reset` sets them.
@@ -65,7 +66,14 @@ PATH = re.compile(r"[\w.*-]*(?:/[\w.*-]+)+/?|[\w.-]+/|[\w*-]+\.(?:py|rt|md|tsv|t
 OUTSIDE = re.compile(r"\w+://\S+|(?<![\w.*-])~?/[\w./-]+")
 ARITY = re.compile(r"\w+/\d(,\d)*")
 NAME = re.compile(r"[^\W\d]\w*(::[^\W\d]\w*)?")
-SECTION = re.compile(r"## (\w+):")
+README = re.compile(r"crates/(\w+)/README\.md")
+# The longest line outside tables, the longest cell of a table, the end of a sentence in a line that goes on, and what a list's item or a
+# heading begins with.
+COLUMNS, CELL = 160, 120
+SENTENCE = re.compile(r'[.?!] +["(\[]?[A-Z]')
+LABEL = re.compile(r"[#\s]*(\d+\. |- )?")
+# A table that a program writes.
+WRITTEN = re.compile(r"^<!-- .*?^<!-- end -->", re.M | re.S)
 # `docs/PROTOCOL.md, "Events"`: a document and the beginning of a heading in it.
 HEADING = re.compile(r'(?:docs/)?(\w+\.md)[`)]?,\s"([^"]+)"')
 COMMENT = {".rt": re.compile(r"//.*"), ".antt": re.compile(r"--.*"), ".py": re.compile(r"^\s*#.*", re.M), ".erl": re.compile(r"%.*")}
@@ -148,18 +156,15 @@ class Document:
             self.faults.append(f"{self.path}: {what}")
 
     def names(self):
-        section = None
+        crate = README.fullmatch(self.path)
         for line in FENCE.sub("", self.text).split("\n"):
-            if line.startswith("## "):
-                head = SECTION.match(line)
-                section = head[1] if head and head[1] in self.tree.words else None
             for path in LINK.findall(line):
                 self.check(self.tree.has(path, self.path), f"no file {path}")
             spans = SPAN.findall(line)
             files = [it for it in spans if line.startswith("|") and it.endswith(".rt") and self.tree.has(it, self.path)]
-            crates = {section} | {crate for crate in self.tree.words if re.search(rf"\b{re.escape(crate)}\b", line)}
+            crates = crate and {crate[1]} | {it for it in self.tree.words if re.search(rf"\b{re.escape(it)}\b", line)}
             for span in spans:
-                self.span(span, section and crates, files)
+                self.span(span, crates, files)
 
     def span(self, span, crates, files):
         if span in ELSEWHERE:
@@ -189,6 +194,17 @@ class Document:
             places = {*crates, *SHARED} if crates else self.tree.words
             self.check(name in self.tree.words or any(name in self.tree.words.get(it, ()) for it in places), f"no name {name}")
 
+    def layout(self):
+        lines = WRITTEN.sub(words.blank, self.text).split("\n")
+        for number, (line, prose) in enumerate(zip(lines, words.prose_of(self.path)), 1):
+            if line.lstrip().startswith("|"):
+                cells = [cell.strip() for cell in re.split(r"(?<!\\)\|", line)]
+                self.check(max(map(len, cells)) <= CELL, f"line {number} has a cell of more than {CELL} characters")
+            elif line and prose.strip():
+                self.check(len(line) <= COLUMNS, f"line {number} has more than {COLUMNS} columns")
+                text = LABEL.sub("", SPAN.sub("X", line), count=1)
+                self.check(not SENTENCE.search(text), f"line {number} has more than one sentence")
+
     def headings(self):
         for name, head in HEADING.findall(self.text):
             path = next((it for it in (f"docs/{name}", name) if it in self.tree.files), None)
@@ -209,15 +225,16 @@ class Document:
                 self.check(known, f"no option {option}")
 
 
-def unlisted(tree):
-    """The files of specs that docs/MAP.md doesn't have: a row has the full path of one, and the last part of its neighbours."""
-    rows, named = [line for line in read_text("docs/MAP.md").split("\n") if line.startswith("|")], set()
-    for row in rows:
-        folder = ""
-        for span in SPAN.findall(row):
-            folder = os.path.dirname(span) or folder
-            named.add(os.path.join("crates", folder, os.path.basename(span)) + ".antt")
-    return sorted(it for it in tree.files if re.fullmatch(r"crates/\w+/specs/(?!Lib)\w+\.antt", it) and it not in named)
+def unexplained(tree):
+    """The files of definitions that have no comment, which docs/MAP.md, "Definitions", lists."""
+    files = sorted(it for it in tree.files if re.fullmatch(r"crates/\w+/specs/(?!Lib)\w+\.antt", it))
+    return [it for it in files if not re.search(r"^--", tree.texts[it], re.M)]
+
+
+def pageless(tree):
+    """The crates without a README.md."""
+    crates = re.findall(r"^(\w+):", read_text("crates.txt"), re.M)
+    return [it for it in crates if os.path.join("crates", it, "README.md") not in tree.files]
 
 
 def text_of(words):
@@ -341,11 +358,13 @@ def main():
     program, tree = os.path.abspath(sys.argv[1]), Tree()
     helps = "".join(text_of([program, *words, "--help"]) for words in ([], ["serve"], ["replay"])) + "--help --version"
     rt, faults, count = text_of(["rt", "help"]), [], 0
-    faults += [f"docs/MAP.md: nothing of {it}" for it in unlisted(tree)]
+    faults += [f"{it}: no comment says what it defines" for it in unexplained(tree)]
+    faults += [f"{it}: the crate has no README.md" for it in pageless(tree)]
     for path in sorted(os.path.relpath(it, TOP) for pattern in DOCUMENTS for it in glob.glob(os.path.join(TOP, pattern))):
         document = Document(path, tree)
         document.names()
         document.headings()
+        document.layout()
         document.options(helps, rt)
         faults += document.faults
         count += document.count

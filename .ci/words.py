@@ -10,11 +10,11 @@ import subprocess
 
 TOP = os.path.dirname(os.path.dirname(os.path.abspath(__file__)))
 NUMBERS = ".ci/words.tsv"
-DOCUMENTS = ["*.md", "docs/*.md", "clients/*/README.md", "clients/*/tabd/README.md"]
+DOCUMENTS = ["*.md", "docs/*.md", "crates/*/README.md", "clients/*/README.md", "clients/*/tabd/README.md"]
 SOURCES = ["crates/**/*.rt"]
 TABLE = re.compile(r"^\| Instead of \| Write \|\n\|.*\n((?:\|.*\n)+)", re.M)
-# A fence with its block, an indented block after an empty line, and a span, which may go over the end of a line.
-CODE = re.compile(r"^ *```.*?^ *```|(?<=\n\n) {4}[^\n]*(?:\n {4}[^\n]*)*|`[^`]*`", re.M | re.S)
+# A fence with its block, an indented block after an empty line, a span, which may go over the end of a line, and a comment.
+CODE = re.compile(r"^ *```.*?^ *```|(?<=\n\n) {4}[^\n]*(?:\n {4}[^\n]*)*|`[^`]*`|<!--.*?-->", re.M | re.S)
 # Strings and characters, which may have a `//`, and comments.
 COMMENT = re.compile(r'"(?:\\.|[^"\\])*"|\'(?:\\.|[^\'\\])\'|//([^\n]*)', re.S)
 
