@@ -98,8 +98,9 @@ class OneShotOfAStream:
             return 0
         shown, age = self.probed(run)
         assert shown == self.shown, f"the probe shows {shown}, and before the one-shot {self.shown}"
-        assert age - self.age in (0, 1), f"it used up {age - self.age} ages"
-        return age - self.age + 1
+        used: int = age - self.age
+        assert used in (0, 1), f"it used up {used} ages"
+        return used + 1
 
 
 def same(run: Any, given: Any, told: Any) -> None:
