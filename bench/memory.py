@@ -13,6 +13,7 @@ import os
 import sys
 import time
 from functools import partial
+from typing import Any, Callable, Iterator, List, Tuple
 
 HERE = os.path.dirname(os.path.abspath(__file__))
 sys.path.insert(0, os.path.join(HERE, ".."))
@@ -20,7 +21,10 @@ from tests.lib.checks import OK, same, script, side_by_side  # noqa: E402
 from tests.lib import holding  # noqa: E402
 from tests.lib.holding import ALL_KEYS, ALL_RECORDS, BY_INDEX, HALF, INDEXED, MEGABYTE, Held  # noqa: E402
 from tests.lib.holding import ask_long, bag_record, fill, halved, size_of, small_record, table  # noqa: E402
-from tests.lib.wire import spell  # noqa: E402
+from tests.lib.wire import Connection, Term, spell  # noqa: E402
+
+Make = Callable[[Connection], None]
+Hold = Callable[[Any, Connection], int]
 
 RECORDS, TRANSACTIONS, SCANS, DUMPS, READERS, ASKED = 100_000, 1_024, 64, 32, 12, 100
 # As many as a transaction may have, but one.
@@ -31,39 +35,41 @@ BAGGED, WRITES = 6_000, 899
 PATIENCE = 60
 
 
-def idle_readers(count, record, records, server, _):
+def idle_readers(count: int, record: holding.Record, records: int, server: Held, _: Connection) -> int:
     """So many connections that have each read all of the table, at once."""
     size = size_of(list(map(record, range(records))))
 
-    def read_all(reader):
+    def read_all(reader: Connection) -> None:
         same("begin", reader.ask("begin")[0], "tid")
         ask_long(reader, ALL_RECORDS, size)
         # An abort, since the journal keeps the replies of a commit.
         script((reader, ("abort", "read"), ("aborted", "read")))
 
-    side_by_side([(read_all, (server.connect(),)) for _ in range(count)])
+    readers = [server.connect() for _ in range(count)]
+    side_by_side([(read_all, (reader,)) for reader in readers])
     return server.kilobytes()
 
 
-def follow(mirror):
+def follow(mirror: Connection) -> None:
     """The events of the one-shot, each of which has one record more than the one before."""
     sizes = [len(mirror.payload()) for _ in range(WRITES)]
     same("their growth", {after - before for before, after in zip(sizes, sizes[1:])}, {len(spell(bag_record(0)))})
 
 
-def one_shot(server, client):
+def one_shot(server: Held, client: Connection) -> int:
     """Writes to a key of many records, told to a mirror that reads, while another reads at another key."""
     mirror, other = holding.watcher(server), server.connect()
     for connection in (client, mirror, other):
         connection.socket.settimeout(PATIENCE)
     writes = [("write", bag_record(BAGGED + number)) for number in range(WRITES)]
-    waited, done = [], []
+    waited: List[float] = []
+    done: List[object] = []
 
-    def until_done(work, *given):
+    def until_done(work: Callable[..., None], *given: Any) -> None:
         work(*given)
         done.append(work)
 
-    def read():
+    def read() -> None:
         while len(done) < 2:
             begun = time.monotonic()
             script((other, ("transaction", [("read", "t", 1)], 0), ("atomic", [[]])))
@@ -76,16 +82,16 @@ def one_shot(server, client):
     return server.kilobytes()
 
 
-def person(key):
+def person(key: int) -> Term:
     return ("person", key, bytes(40))
 
 
-def of_ten(number):
+def of_ten(number: int) -> Term:
     """One of ten of its key, as long as each other."""
     return ("person", number // 10, number.to_bytes(40, "big"))
 
 
-def persons(record, count, server, client):
+def persons(record: holding.Record, count: int, server: Held, client: Connection) -> int:
     """Rows of a table, and how many bytes each of them takes."""
     before = server.kilobytes()
     fill(client, record, count, 500)
@@ -95,7 +101,7 @@ def persons(record, count, server, client):
     return held
 
 
-def full_journal(operation, reply, server, client):
+def full_journal(operation: Term, reply: Term, server: Held, client: Connection) -> int:
     """As many one-shots as the journal has entries, of this operation as often as a transaction may have one."""
     request, size = ("transaction", [operation] * OPERATIONS, 0), size_of(("atomic", [reply] * OPERATIONS))
     for _ in range(TRANSACTIONS):
@@ -103,13 +109,13 @@ def full_journal(operation, reply, server, client):
     return server.kilobytes()
 
 
-def of_long(size, count, hold, times):
+def of_long(size: int, count: int, hold: Callable[..., int], times: int) -> Tuple[Make, Hold]:
     """A table of long records, and what holds all of them so often."""
     record = holding.long_record(size)
     return table(record, count, 1 if count < 100 else 10), partial(hold, times, record, count)
 
 
-def rows():
+def rows() -> Iterator[Tuple[str, List[str], Make, Hold]]:
     """What, the server's further words, how the table is made, and what is held with it."""
     small, keys, records = table(small_record, RECORDS), list(range(RECORDS)), [small_record(key) for key in range(RECORDS)]
     bag = table(bag_record, BAGGED, options=[("type", "bag")])
@@ -119,15 +125,16 @@ def rows():
             hold = partial(holding.whole_reads, (request, answer), count, writes)
             yield f"{count} transactions of {'a write and ' * writes}{what}, {RECORDS} records", [], small, hold
     halves, found = table(halved, RECORDS, options=INDEXED), [halved(key) for key in range(0, RECORDS, 2)]
-    for what, request in (("match_object", HALF), ("index_read", BY_INDEX)):
-        hold = partial(holding.whole_reads, (request, found), SCANS, False)
+    for what, look in (("match_object", HALF), ("index_read", BY_INDEX)):
+        hold = partial(holding.whole_reads, (look, found), SCANS, False)
         yield f"{SCANS} transactions of {what} that finds half, {RECORDS} records", [], halves, hold
     few = table(small_record, 10)
-    for what, operation, reply in (
+    operations: List[Tuple[str, Term, Term]] = [
         ("reads", ("read", "t", 1), [small_record(1)]),
         ("writes", ("write", small_record(1)), OK),
         ("match_object that find none", ("match_object", ("t", "_", "none")), []),
-    ):
+    ]
+    for what, operation, reply in operations:
         yield f"{TRANSACTIONS} one-shots of {OPERATIONS} {what}", [], few, partial(full_journal, operation, reply)
     yield f"a one-shot of {ASKED} all_keys, {RECORDS} records, at its peak", [], small, partial(holding.answers, ASKED, keys)
     for size, count in ((100_000, 300), (1_000, 30_000)):
@@ -141,7 +148,7 @@ def rows():
     yield "100000 rows of 40 bytes, ten at each key of a bag", ["--journal", "16"], bag, partial(persons, of_ten, 100_000)
 
 
-def main():
+def main() -> None:
     if len(sys.argv) != 2:
         sys.exit(__doc__)
     print("what | the table alone | held with it | more")

@@ -15,13 +15,19 @@ import os
 import sys
 import time
 from functools import partial
+from typing import Any, Callable, Iterator, List, Tuple
 
 HERE = os.path.dirname(os.path.abspath(__file__))
 sys.path.insert(0, os.path.join(HERE, ".."))
 from tests.lib.checks import ATOMIC, HERE_OK, OK, same, script, side_by_side  # noqa: E402
 from tests.lib.holding import ALL_KEYS, ALL_RECORDS, DUMP, MEGABYTE, NO_MORE, Held  # noqa: E402
 from tests.lib.holding import ask_long, fill, long_reads, long_record, size_of, small_record, table  # noqa: E402
-from tests.lib.wire import Connection  # noqa: E402
+from tests.lib.servers import Server  # noqa: E402
+from tests.lib.wire import Connection, Term  # noqa: E402
+
+# What is done each time, and what makes it for a client.
+Work = Callable[[], object]
+Prepare = Callable[[Server, Connection], Work]
 
 RECORDS, BAGGED, WRITES, DUMPS, READS, FINDS, WATCHERS = 100_000, 6_000, 899, 32, 999, 99, 60
 # As many commands on tables as make a journal full, by two, and transactions behind them.
@@ -34,9 +40,9 @@ OWN = itertools.count()
 PATIENCE = 60
 
 
-def read_on(place, ready, done, found):
+def read_on(place: Any, ready: Any, done: Any, found: Any) -> None:
     """Reads until the other is done; how long each read took."""
-    reader, waited = Connection(place), []
+    reader, waited = Connection(place), []  # type: Connection, List[float]
     reader.socket.settimeout(PATIENCE)
     ready.set()
     while not done.is_set() or len(waited) < 2:
@@ -46,9 +52,10 @@ def read_on(place, ready, done, found):
     found.put(waited)
 
 
-def beside(server, work):
+def beside(server: Server, work: Work) -> List[float]:
     """How long each read took that was made while this was done."""
-    ready, done, found = multiprocessing.Event(), multiprocessing.Event(), multiprocessing.Queue()
+    ready, done = multiprocessing.Event(), multiprocessing.Event()
+    found: "multiprocessing.Queue[List[float]]" = multiprocessing.Queue()
     reader = multiprocessing.Process(target=read_on, args=(server.place, ready, done, found))
     reader.start()
     ready.wait()
@@ -61,20 +68,20 @@ def beside(server, work):
     return waited
 
 
-def nothing(server, client):
+def nothing(server: Server, client: Connection) -> Work:
     return lambda: time.sleep(1)
 
 
-def asks(request, size):
+def asks(request: Term, size: int) -> Prepare:
     """A request, of whose reply it is looked only whether it has so many bytes."""
 
-    def ask(server, client):
+    def ask(server: Server, client: Connection) -> Work:
         return lambda: ask_long(client, request, size)
 
     return ask
 
 
-def at_once(server, client, prepare, count):
+def at_once(server: Server, client: Connection, prepare: Prepare, count: int) -> Work:
     """So many clients that each do this."""
     clients = [client, *(server.connect() for _ in range(count - 1))]
     for other in clients:
@@ -83,14 +90,14 @@ def at_once(server, client, prepare, count):
     return lambda: side_by_side([(work, ()) for work in works])
 
 
-def long_transactions(reads):
+def long_transactions(reads: int) -> Prepare:
     return lambda server, client: partial(long_reads, 6, reads, server, client)
 
 
-def many_dumps(server, client):
+def many_dumps(server: Server, client: Connection) -> Work:
     """A session subscribes with a dump and ends that, so often, and takes all of it as it comes."""
 
-    def work():
+    def work() -> None:
         client.send(DUMP)
         for _ in range(DUMPS):
             for request in (NO_MORE, DUMP):
@@ -104,24 +111,25 @@ def many_dumps(server, client):
     return work
 
 
-def script_end(client):
+def script_end(client: Connection) -> None:
     client.send(NO_MORE)
     client.payload()
     client.payload()
 
 
-def watched(server, client, name, count, request, size, events):
-    """A one-shot, told in detail to so many that read nothing meanwhile, and take it behind it."""
-    table_at = ("table", name, "detailed")
+def watched(server: Server, client: Connection, watching: Tuple[str, int], request: Term, replies: Term) -> Work:
+    """A one-shot, of as many events as replies, told in detail to so many that read nothing meanwhile, and take it behind it."""
+    name, count = watching
+    table_at, size = ("table", name, "detailed"), size_of(("atomic", replies))
     mirrors = [server.connect() for _ in range(count)]
     for mirror in mirrors:
         script((mirror, ("subscribe", table_at), HERE_OK))
         same("begin marker", mirror.event()[0], "mnesia_table_begin")
 
-    def work():
+    def work() -> None:
         ask_long(client, request, size)
         for mirror in mirrors:
-            for _ in range(events):
+            for _ in replies:
                 mirror.payload()
             script((mirror, ("unsubscribe", table_at), HERE_OK))
             mirror.event()
@@ -130,36 +138,36 @@ def watched(server, client, name, count, request, size, events):
     return work
 
 
-def bag_asks(server, client, verb, first):
+def bag_asks(server: Server, client: Connection, verb: str, first: int) -> Work:
     """So many of these at one key of a bag of its own, told in detail to one."""
     name = f"bag{next(OWN)}"
     script((client, ("create_table", name, [("type", "bag")]), ATOMIC))
     fill(client, lambda number: (name, 0, number), BAGGED, 500)
     request = ("transaction", [(verb, (name, 0, first + number)) for number in range(WRITES)], 0)
-    return watched(server, client, name, 1, request, size_of(("atomic", [OK] * WRITES)), WRITES)
+    return watched(server, client, (name, 1), request, [OK] * WRITES)
 
 
-def bag_writes(server, client):
+def bag_writes(server: Server, client: Connection) -> Work:
     return bag_asks(server, client, "write", BAGGED)
 
 
-def bag_deletions(server, client):
+def bag_deletions(server: Server, client: Connection) -> Work:
     return bag_asks(server, client, "delete_object", 0)
 
 
-def own_writes(server, client):
+def own_writes(server: Server, client: Connection) -> Work:
     """To keys of its own, so that no two wait for each other's locks."""
     first = next(OWN) * READS
     request = ("transaction", [("write", small_record(first + number)) for number in range(READS)], 0)
     return lambda: ask_long(client, request, size_of(("atomic", [OK] * READS)))
 
 
-def index_again(client, name):
+def index_again(client: Connection, name: str) -> None:
     """An index is added to a table and taken away."""
     script((client, ("add_table_index", name, "val"), ATOMIC), (client, ("del_table_index", name, "val"), ATOMIC))
 
 
-def own_index(server, client):
+def own_index(server: Server, client: Connection) -> Work:
     """Of a table of its own, so that no two wait for each other's locks."""
     name = f"own{next(OWN)}"
     script((client, ("create_table", name, []), ATOMIC))
@@ -167,25 +175,25 @@ def own_index(server, client):
     return lambda: index_again(client, name)
 
 
-def index_folds(server, client):
+def index_folds(server: Server, client: Connection) -> Work:
     """Transactions that each fold commands on a table: the journal is full of such, and each of them made an index."""
     for _ in range(PAIRS):
         index_again(client, "t")
     request, size = ("transaction", [("read", "t", 1)] * READS, 0), size_of(("atomic", [[small_record(1)]] * READS))
 
-    def work():
+    def work() -> None:
         for _ in range(FOLDS):
             ask_long(client, request, size)
 
     return work
 
 
-def many_watch(server, client):
+def many_watch(server: Server, client: Connection) -> Work:
     request = ("transaction", [("write", small_record(key)) for key in range(READS)], 0)
-    return watched(server, client, "t", WATCHERS, request, size_of(("atomic", [OK] * READS)), READS)
+    return watched(server, client, ("t", WATCHERS), request, [OK] * READS)
 
 
-def rows(count):
+def rows(count: int) -> Iterator[Tuple[str, Callable[[Connection], None], Prepare]]:
     """What, how its table is made, and what is done each time."""
     small, one = table(small_record, RECORDS, 500), table(small_record, 1)
     # Of what is sent as a reply many are sent as much together as one is alone.
@@ -193,7 +201,7 @@ def rows(count):
     keys, records = list(range(RECORDS)), [small_record(key) for key in range(RECORDS)]
     indexed = [("t", key, 7) for key in range(RECORDS)]
 
-    def with_index(client):
+    def with_index(client: Connection) -> None:
         script((client, ("create_table", "t", [("index", ["val"])]), ATOMIC))
         fill(client, lambda key: indexed[key], RECORDS, 500)
 
@@ -222,13 +230,13 @@ def rows(count):
     yield f"a one-shot of {READS} writes, told in detail to {WATCHERS}", small, many_watch
 
 
-def main():
+def main() -> None:
     if len(sys.argv) not in (2, 3, 4):
         sys.exit(__doc__)
     rounds, count = [int(word) for word in sys.argv[2:]] + [3, 1][len(sys.argv) - 2 :]
     print("what | reads | median | longest")
     for what, make, prepare in rows(count):
-        waited = []
+        waited: List[float] = []
         with Held(os.path.abspath(sys.argv[1])) as server:
             client = server.connect()
             client.socket.settimeout(PATIENCE)

@@ -23,7 +23,7 @@ pytestmark = pytest.mark.usefixtures("plain")
 
 # A session that waits sleeps for a second if it is not woken. Then no reply comes for so many seconds, and a thread of the test, on the same
 # processors, was never late by so many.
-SILENCE, LATE = 0.5, 0.2
+SILENCE, LATE = 0.8, 0.2
 # So many waits at once, each for a lock of its own, in so many turns; their ends are watched by so many sessions. A session that waits asks for
 # its lock once more after twenty milliseconds, and the locks are free at about that time.
 WAITS, TURNS, WATCHERS, FREE = 8, 20, 2, (0.015, 0.025)

@@ -373,7 +373,7 @@ class TellsAnotherOverflow(Wrong):
     def told(self, link: Any, term: Any) -> Any:
         if link.notes.get("late") and is_event(term) and link.notes.get("naps", 0) < 2 and self.now_and_then():
             link.notes["naps"] = link.notes.get("naps", 0) + 1
-            time.sleep(1)
+            time.sleep(2.5)
         return [(term[0], term[1] + 40)] if term[0] == "mnesia_overflow" else [term]
 
 
