@@ -57,7 +57,7 @@ fn run_of(alloc: Global, matches: &ArgMatches<'_>) -> Result<Run, Error>
 }
 
 /// Where clients are to connect; also that the number of connections is given. The parser itself has no rule of one option on
-/// another: docs/DECISIONS.md says why.
+/// another: the page of this crate says why.
 fn address(alloc: Global, matches: &ArgMatches<'_>) -> Result<Address, Error>
     ensures asked { IfOk result (IsAddressOf (rows_of (found_of matches.now))) }
     ensures fails { FailsBy (serve_kinds_of (rows_of (found_of matches.now))) result }
