@@ -1,6 +1,6 @@
 //! The commands of a connection's requests, as steps of its session.
 
-ghost use Rattle.std.specs.Prelude.{◌≢◌, IfSome};
+ghost use Rattle.std.specs.Prelude.{◌≡◌, ◌≢◌, IfSome};
 ghost use Rattle.tab_model.specs.declared.data.Reply.TheVariants as reply;
 
 use crate::gate::{Count, Gate};
@@ -128,7 +128,9 @@ impl<'a, H: Host, W: Write, G: Gate> Requests<'a, H, W, G> {
             return;
         }
         self.watch.begin(self.host, false);
-        let _over = self.shared.rest(self.host, &self.seat, naps.saturating_sub(1));
+        let _over = self
+            .shared
+            .rest(self.host, &self.seat, naps.saturating_sub(1));
         self.watch.end(self.host);
     }
 
