@@ -10,7 +10,7 @@ from typing import Any, Callable, Iterator
 
 import pytest
 
-from tests.lib.checks import ATOMIC, CREATE, HERE_OK, LIMIT, OK, script, side_by_side, waits, watch, write
+from tests.lib.checks import ATOMIC, CREATE, HERE_OK, LIMIT, OK, read_waits, script, side_by_side, watch, write
 from tests.lib.servers import Client, Metered, Server
 
 # A client of the page has so many seconds for its request; another is answered in less meanwhile.
@@ -50,9 +50,7 @@ def test_each_is_counted(server: Metered) -> None:
 
 def test_waits_and_restarts(server: Metered) -> None:
     older, younger = server.connect(), server.connect()
-    script((older, CREATE, ATOMIC), (older, "begin", ("tid", 1)), (younger, "begin", ("tid", 2)), (younger, write(1, "b"), OK))
-    older.send(("read", "t", 1))
-    waits(older)
+    read_waits(older, younger)
     server.has(waits_total=1, restarts_total=0, open_transactions=2, commits_total=0)
     script((younger, "commit", ("atomic", 1)))
     assert older.receive() == ("reply", [("t", 1, "b")]), "the one that waits"
