@@ -3,26 +3,45 @@
 
     metrics.py PROGRAM                    as metrics.py crates/tabd/out/tabd
 
-Needs gcc with libc6-dev. The loads are those of beside.py. A figure is how often the rate with the word is that without it: the median of
-five rounds, in each of which both are measured once, and the least and the greatest. LOAD_MS gives the milliseconds of a run, 1,500
-where it is not set, and ROUNDS the rounds.
+Needs gcc with libc6-dev. The loads are those of beside.py. A figure is the rate with the word divided by that without it: the median of
+five rounds, in each of which both are measured once, in turn first, and the least and the greatest. The same is said of the server's
+processor time for a request, which other work on the machine moves less. LOAD_MS gives the milliseconds of a run, 1,500 if it is not set,
+and ROUNDS the rounds; where much else runs, take short runs and many rounds.
 """
 
 import os
 import subprocess
 import sys
 import tempfile
+import time
 
 from beside import CONNECTIONS, HERE, LOADS, ROUNDS, Framed, figure, rate
 
 SERVE = ("serve", "--port", "0", "--connections", "64", "--forever")
 
 
+def used(process):
+    """The processor time of all its threads, in seconds: the clock that clock_getcpuclockid(3) names."""
+    return time.clock_gettime(~process.pid << 3 | 2)
+
+
+def measured(load_program, server, load, connections):
+    """The rate, and the processor time for a request."""
+    before = used(server.process)
+    found = rate(load_program, server, load, connections)[0]
+    return found, (used(server.process) - before) / found
+
+
 def rows(load_program, plain, metered):
     for text, load, _ in LOADS:
         for connections in CONNECTIONS:
-            ratios = [rate(load_program, metered, load, connections)[0] / rate(load_program, plain, load, connections)[0] for _ in range(ROUNDS)]
-            yield f"{text}, {connections} connections: {figure(ratios)}"
+            ratios = []
+            for turn in range(ROUNDS):
+                order = (plain, metered) if turn % 2 else (metered, plain)
+                found = {server: measured(load_program, server, load, connections) for server in order}
+                ratios.append([with_word / without for with_word, without in zip(found[metered], found[plain])])
+            rates, times = zip(*ratios)
+            yield f"{text}, {connections} connections: rate {figure(rates)}, processor time {figure(times)}"
 
 
 def main():

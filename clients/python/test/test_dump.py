@@ -8,6 +8,7 @@ import contextlib
 import io
 import json
 import os
+import pty
 import random
 import shutil
 import subprocess
@@ -296,6 +297,32 @@ class Restored(Dumped):
             client.table_info("t", "size")
         client.create_table("t")
         self.assertEqual(client.table_info("t", "size"), 0)
+
+    def shown(self, *words: str) -> str:
+        """What a command writes to a terminal on standard error."""
+        terminal, end = pty.openpty()
+        with subprocess.Popen([sys.executable, "-m", "tabd", *words], cwd=os.path.join(HERE, ".."), stdout=subprocess.DEVNULL, stderr=end):
+            os.close(end)
+            text = b""
+            # The terminal's last reader gets an error.
+            with contextlib.suppress(OSError):
+                while True:
+                    text += os.read(terminal, 1 << 16)
+        os.close(terminal)
+        return text.decode()
+
+    def test_progress(self) -> None:
+        """On a terminal; the line is cleared in the end."""
+        client = self.client(self.server)
+        self.fill(client)
+        shown = self.shown("dump", self.path, "many", "bag")
+        self.assertIn("\rmany: 100 % of 4000 records\x1b[K", shown)
+        self.assertTrue(shown.endswith("\r\x1b[K"), shown)
+        for name in ("many", "bag"):
+            client.delete_table(name)
+        shown = self.shown("restore", self.path)
+        self.assertIn("\r4303 of 4303 records\x1b[K", shown)
+        self.assertTrue(shown.endswith("\r\x1b[K"), shown)
 
     def test_failed_restore_leaves_nothing(self) -> None:
         """The second table can't be created if the server has 256."""

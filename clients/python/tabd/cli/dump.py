@@ -325,11 +325,11 @@ def fill(connect: Callable[[], Wire], source: Source, said: Callable[[int], None
 
 def _undo(wire: Wire, made: List[str], begun: Optional[Definition]) -> None:
     """Deletes the tables that were made. If no reply came to the creation of the last one, it is deleted if it is as it would have been made."""
-    if begun is not None and begun.name not in made:
-        if definition(wire, begun.name) == begun._replace(records=0) and is_empty(wire, begun.name):
-            wire.ask(("delete_table", begun.name))
     for name in made:
         wire.ask(("delete_table", name))
+    if begun is not None and begun.name not in made and exists(wire, begun.name):
+        if definition(wire, begun.name) == begun._replace(records=0) and is_empty(wire, begun.name):
+            wire.ask(("delete_table", begun.name))
 
 
 # The commands
