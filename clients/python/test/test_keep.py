@@ -366,14 +366,16 @@ class Folder(unittest.TestCase):
         self.close(store)
 
     def test_generations(self) -> None:
-        """The older files are there until the newer dump is."""
+        """The older files are there until the newer dump is, and files of others stay."""
+        with open(os.path.join(self.folder, ".other.part"), "wb"):
+            pass
         store = Store(self.folder)
         path = store.begin()
-        self.assertEqual(sorted(os.listdir(self.folder)), ["1.dump", "1.log", "2.log", "lock", "token"])
+        self.assertEqual(sorted(os.listdir(self.folder)), [".other.part", "1.dump", "1.log", "2.log", "lock", "token"])
         with open(path, "wb"):
             pass
         store.begun()
-        self.assertEqual(sorted(os.listdir(self.folder)), ["2.dump", "2.log", "lock", "token"])
+        self.assertEqual(sorted(os.listdir(self.folder)), [".other.part", "2.dump", "2.log", "lock", "token"])
         self.close(store)
 
 
@@ -523,6 +525,15 @@ class Foreign(Patient):
         with self.started("--batches") as (server, client):
             self.keep_for(server, lambda: True)
             self.assertEqual(self.records(client), [("t", 1, b"new")])
+
+    def test_table_that_is_not_named(self) -> None:
+        """It would not be in the next dump."""
+        with self.started("--batches") as (server, client):
+            client.create_table("u")
+            with Store(self.folder) as store, self.assertRaisesRegex(Failure, "the folder has table t too"):
+                Keeper((server.port, "127.0.0.1"), store, Settings(["u"], "keep", 0.0, 1 << 30, "", True, False)).run()
+            self.keep_for(server, lambda: True)
+            self.assertEqual(self.records(client), [("t", 1, b"kept")])
 
     def test_another_folder(self) -> None:
         with self.started("--batches") as (server, client):

@@ -330,7 +330,7 @@ class Troubled(Patient):
         closed = os.path.join(self.folder, "closed")
         os.mkdir(closed)
         os.chmod(closed, 0o555)
-        secret = os.path.join(closed, "secret")
+        secret = os.path.join(self.folder, "secret")
         with open(secret, "wb"):
             os.chmod(secret, 0)
         cases = (("dump", os.path.join(closed, "x"), "t"), ("keep", closed, "t"), ("keep", os.path.join(closed, "k"), "t"), ("restore", secret))
@@ -341,10 +341,12 @@ class Troubled(Patient):
             self.assertRegex(err, f"^tabd-cli {words[0]}: {words[1]}.*: Permission denied\n")
 
     def test_names_of_files(self) -> None:
-        """Names that are a folder, or in none."""
+        """Names that are a folder or a device, or in no folder."""
         nowhere = os.path.join(self.folder, "none", "x")
         cases = (
-            (("dump", self.folder, "t"), f"dump: {self.folder} is a folder"),
+            (("dump", self.folder, "t"), f"dump: {self.folder} is no regular file"),
+            (("dump", "/dev/null", "t"), "dump: /dev/null is no regular file"),
+            (("keep", self.folder, "t"), f"keep: {self.folder} has other files, and no keeper's: take an empty folder"),
             (("dump", nowhere, "t"), f"dump: {nowhere}: No such file or directory"),
             (("restore", self.folder), f"restore: {self.folder}: Is a directory"),
             (("restore", nowhere), f"restore: {nowhere}: No such file or directory"),
@@ -354,6 +356,7 @@ class Troubled(Patient):
         for words, wanted in cases:
             found = run("--server", str(self.server.port), *words)
             self.assertEqual(found, (1, "", f"tabd-cli {wanted}\n"))
+        self.assertEqual(sorted(os.listdir(self.folder)), ["new", "whole"])
 
     def test_output_that_cannot_be_written(self) -> None:
         server = ("--server", str(self.server.port))

@@ -163,8 +163,9 @@ class Taken(NamedTuple):
 
 def take(connect: Callable[[], Wire], names: Sequence[str], path: str, calls: Calls) -> Tuple[Wire, Taken]:
     """Writes a dump to a path, as a whole or not at all; gives its connection too, which has subscribed to the tables."""
-    if os.path.isdir(path):
-        raise Failure(f"{path} is a folder")
+    if os.path.exists(path) and not os.path.isfile(path):
+        # A rename would replace it.
+        raise Failure(f"{path} is no regular file")
     part = os.path.join(os.path.dirname(path), f".{os.path.basename(path)}.{os.getpid()}.part")
     try:
         for together in (True, False):
@@ -346,7 +347,7 @@ def dump(words: argparse.Namespace) -> int:
     progress.show("waits for the tables' read locks")
     with ending():
         try:
-            wire, taken = take(lambda: Wire(port, host), names, os.path.abspath(words.file), Calls(written=written))
+            wire, taken = take(lambda: Wire(port, host), names, os.path.realpath(words.file), Calls(written=written))
         finally:
             progress.end()
     wire.close()

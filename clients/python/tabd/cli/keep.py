@@ -87,6 +87,7 @@ class Keeper:
 
     def run(self) -> None:
         """Runs until the process is ended; only an error from which it can't recover ends it."""
+        self._check_names()
         noted = ""
         while True:
             try:
@@ -99,6 +100,15 @@ class Keeper:
                 # A table went before it was locked, or a transaction holds a lock in one that is to be deleted.
                 pass
             time.sleep(PAUSE_SECONDS)
+
+    def _check_names(self) -> None:
+        """A table of the folder that is not named would not be in the next dump, and would be lost."""
+        if self.store.is_empty:
+            return
+        with opened(self.store.dump_path(self.store.generation)) as source:
+            for table in source.tables:
+                if table.name not in self.names:
+                    raise Failure(f"the folder has table {table.name} too: name it, or take another folder")
 
     def _serve(self) -> None:
         """Brings the server's tables and the folder together, then follows until the connection ends."""

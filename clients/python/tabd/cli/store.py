@@ -33,6 +33,8 @@ from .dump import fsync_folder, opened
 from .wire import commit_of, operations
 
 CHUNK = struct.Struct(">II")
+# What a folder may have before it is a keeper's: what a keeper made that was killed at once, and what a file system has.
+EMPTY = {"lock", "token.part", "lost+found"}
 
 
 class Store:
@@ -41,6 +43,9 @@ class Store:
     def __init__(self, folder: str) -> None:
         self.folder = folder
         os.makedirs(folder, exist_ok=True)
+        names = set(os.listdir(folder))
+        if "token" not in names and not names <= EMPTY:
+            raise Failure(f"{folder} has other files, and no keeper's: take an empty folder")
         self.locked = open(self.path("lock"), "w")
         self.log: Optional[IO[bytes]] = None
         self.log_size = 0
@@ -113,7 +118,7 @@ class Store:
         """The next generation's dump is there: the older ones aren't wanted any more."""
         self.generation += 1
         for name in os.listdir(self.folder):
-            match = re.fullmatch(r"(\d+)\.(?:dump|log)|\..*\.part", name)
+            match = re.fullmatch(r"(\d+)\.(?:dump|log)|\.\d+\.dump\.\d+\.part", name)
             if match is not None and match.group(1) != str(self.generation):
                 os.remove(self.path(name))
 
