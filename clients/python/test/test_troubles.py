@@ -153,6 +153,9 @@ class Troubled(Patient):
         self.client.delete_table("back")
         self.prepare()
 
+    def tables(self) -> List[str]:
+        return [line.split("\t")[0] for line in run("tables", "--metrics", str(self.page))[1].splitlines()]
+
     def prepare(self) -> None:
         """What each command finds: a table to drop and none to create, an older file, and no table that is to be restored."""
         for name in ("gone", "u", "back"):
@@ -263,19 +266,21 @@ class Troubled(Patient):
                 self.client.one_shot().write(("t", 1, b"v" * 40)).run()
                 self.check(found, command, 130)
                 self.assertEqual(found[2], f"tabd-cli {command}: interrupted\n")
-                with self.assertRaises(tabd.NoExists):
-                    self.client.table_info("back", "size")
+                # A creation and a deletion may have been done.
+                self.assertEqual([name for name in self.tables() if name not in ("u", "gone")], ["t"])
                 self.prepare()
         for command, words in PAGES.items():
             with self.subTest(command), Proxy(self.page, 100, stalls=True) as proxy:
                 self.check(self.interrupted(signal.SIGINT, proxy, command, "--metrics", str(proxy.port), *words), command, 130)
 
-    def test_dump_is_terminated(self) -> None:
-        """SIGTERM leaves no part of a file."""
-        with Proxy(self.server.port, 40_000, stalls=True) as proxy:
-            found = self.interrupted(signal.SIGTERM, proxy, "--server", str(proxy.port), "dump", *self.words["dump"])
-        self.assertEqual(found, (128 + signal.SIGTERM, "", ""))
-        self.assertEqual(sorted(os.listdir(self.folder)), ["new", "whole"])
+    def test_terminated(self) -> None:
+        """SIGTERM leaves no part of a file, and no table."""
+        for command, limit in (("dump", 40_000), ("restore", 120), ("bench", 400)):
+            with self.subTest(command), Proxy(self.server.port, limit, stalls=True) as proxy:
+                found = self.interrupted(signal.SIGTERM, proxy, "--server", str(proxy.port), command, *self.words[command])
+            self.assertEqual(found, (128 + signal.SIGTERM, "", ""))
+            self.assertEqual(sorted(os.listdir(self.folder)), ["new", "whole"])
+            self.assertEqual(self.tables(), ["gone", "t"])
 
     def test_keeper_waits_for_a_server(self) -> None:
         """It goes on without a server, until Ctrl-C."""

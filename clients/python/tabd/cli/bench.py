@@ -16,7 +16,7 @@ from typing import Any, Callable, Dict, Iterator, List, Tuple, Union
 
 import tabd
 
-from .common import Failure, Progress, fraction, number, say_line, say_object, server_of
+from .common import Failure, Progress, ending, fraction, number, say_line, say_object, server_of
 from .wire import UNDO_SECONDS, Wire, frame, refuse
 
 # Each bucket ends at 1.25 times the one before it, from 10 microseconds to ten seconds.
@@ -124,7 +124,7 @@ def _run(words: argparse.Namespace, address: Tuple[Union[int, str], str], table:
 def bench(words: argparse.Namespace) -> int:
     port, host = server_of(words)
     table = f"tabd_bench_{os.getpid()}"
-    with Wire(port, host) as wire:
+    with ending(), Wire(port, host) as wire:
         refuse(wire.ask(("create_table", table, [])))
         try:
             counts = _run(words, (port, host), table)
