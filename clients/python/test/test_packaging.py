@@ -69,7 +69,7 @@ find / -xdev -name "*tabd*" -not -path "/proc/*" -not -path "/var/lib/private/*"
 systemctl poweroff --force
 """
 BOOTED = """{route,alice,7}
-tabd-cli info: no connection to /run/tabd/socket: [Errno 13] Permission denied
+tabd-cli info: no connection to /run/tabd/socket: Permission denied
 CapBnd:\t0000000000000000
 NoNewPrivs:\t1
 Seccomp:\t2

@@ -287,7 +287,7 @@ class Troubled(Patient):
         with self.started("--server", "1", "keep", os.path.join(self.folder, "kept"), "t") as process:
             assert process.stderr is not None
             line = process.stderr.readline()
-            self.assertEqual(line, "tabd-cli keep: no connection to 127.0.0.1:1: [Errno 111] Connection refused; tries again\n")
+            self.assertEqual(line, "tabd-cli keep: no connection to 127.0.0.1:1: Connection refused; tries again\n")
             os.killpg(process.pid, signal.SIGINT)
             self.assertEqual(process.communicate(timeout=SECONDS), ("", "tabd-cli keep: interrupted\n"))
         self.assertEqual(process.returncode, 130)
