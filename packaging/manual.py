@@ -171,11 +171,14 @@ def of_client(version: str) -> str:
         lines += [f".SS {plain(name)} {plain(words)}", plain((parser.description or "").capitalize()) + "."]
         for action in parser._actions:
             if action.help and action.dest not in ("help", "json", "server"):
-                takes = f" \\fI{action.metavar or (action.dest.upper() if action.nargs != 0 else '')}\\fR" if action.option_strings else ""
+                given = action.metavar or "|".join(action.choices or ()) or (action.dest.upper() if action.nargs != 0 else "")
+                takes = f" \\fI{given}\\fR" if action.option_strings else ""
                 title = plain(action.option_strings[-1]) if action.option_strings else str(action.metavar)
                 lines += [".TP", f"\\fB{title}\\fR{takes}", plain(action.help)]
-    lines += [".SH EXIT STATUS", ".TP", ".B 0", "It is done.", ".TP", ".B 1", "The server refused it or could not be reached, or a file could not be written; standard error has one line."]
-    lines += [".TP", ".B 2", "The arguments on the command line are wrong.", ".TP", ".B 130", "Ctrl\\-C ended it.", ".SH SEE ALSO", ".BR tabd (1),", "/usr/share/doc/python3\\-tabd/OPERATING.md"]
+    lines += [".SH EXIT STATUS", ".TP", ".B 0", "It is done."]
+    lines += [".TP", ".B 1", "The server refused it or could not be reached, or a file could not be written; standard error has one line."]
+    lines += [".TP", ".B 2", "The arguments on the command line are wrong.", ".TP", ".B 130", "Ctrl\\-C ended it."]
+    lines += [".SH SEE ALSO", ".BR tabd (1),", "/usr/share/doc/python3\\-tabd/OPERATING.md"]
     return "\n".join(lines) + "\n"
 
 

@@ -247,6 +247,7 @@ class Kept(Patient):
                 time.sleep(chance.random() * 0.5)
             else:
                 self.wait_for_lines(len(self.lines) + chance.randrange(1, 40))
+                time.sleep(chance.random() * 0.1)
             assert self.keeper is not None
             self.keeper.kill()
             kept = self.last_kept()

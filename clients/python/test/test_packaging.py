@@ -41,6 +41,45 @@ def is_program() -> bool:
         return file.read(4) == b"\x7fELF"
 
 
+needs_debian = unittest.skipUnless(
+    os.environ.get("TABD_LONG") and shutil.which("mmdebstrap") and os.geteuid() == 0 and is_program(), "no TABD_LONG, or no mmdebstrap"
+)
+
+# What is run under systemd. A command is tried again until its server is there, or its reply is.
+UNIT = "[Service]\nExecStart=/bin/bash /root/try\nStandardOutput=file:/root/said\n[Install]\nWantedBy=multi-user.target\n"
+TRY = """
+until_it() { for _ in $(seq 100); do "$@" 2> /dev/null && return; sleep 0.2; done; echo "never: $*"; }
+cli() { tabd-cli --server 4000 "$@"; }
+live() { cli read tabd_kept keep | grep -q live; }
+until_it cli create route
+cli write route alice 7
+until_it grep -qr alice /var/lib/private/tabd-keep
+systemctl kill --signal=KILL tabd
+until_it live
+cli all route
+until_it test -S /run/tabd/socket
+useradd --groups tabd-clients member
+useradd other
+setpriv --reuid=member --init-groups tabd-cli --server /run/tabd/socket create members 2>&1
+setpriv --reuid=other --init-groups tabd-cli --server /run/tabd/socket info members 2>&1
+grep -h -E "NoNewPrivs|Seccomp:|CapBnd" /proc/$(systemctl show --property=MainPID --value tabd)/status
+dpkg --purge tabd python3-tabd > /dev/null 2>&1
+systemctl is-active tabd tabd-socket tabd-keep
+find / -xdev -name "*tabd*" -not -path "/proc/*" -not -path "/var/lib/private/*" -not -path "/var/lib/tabd-keep" -not -path "/var/log/*" -not -path "/tmp/*"
+systemctl poweroff --force
+"""
+BOOTED = """{route,alice,7}
+tabd-cli info: no connection to /run/tabd/socket: Permission denied
+CapBnd:\t0000000000000000
+NoNewPrivs:\t1
+Seccomp:\t2
+inactive
+inactive
+inactive
+/etc/default/tabd-keep
+"""
+
+
 @unittest.skipUnless(os.path.isdir(PACKAGING), "the client was copied without the repository")
 class Packaging(unittest.TestCase):
     @classmethod
@@ -122,15 +161,20 @@ class Packaging(unittest.TestCase):
                 page = subprocess.run(["man", "-l", f"{root}/usr/share/man/man1/{name}.1.gz"], stdout=subprocess.PIPE, text=True, check=True).stdout
                 self.assertIn("EXIT STATUS", page)
 
-    @unittest.skipUnless(os.environ.get("TABD_LONG") and shutil.which("mmdebstrap") and os.geteuid() == 0 and is_program(), "no TABD_LONG, or no mmdebstrap")
+    def debian(self, root: str, packages: str) -> List[str]:
+        """Makes a new Debian in a folder; gives the words that install both packages."""
+        said("mmdebstrap", "--quiet", "--variant=minbase", f"--include={packages}", "bookworm", root)
+        paths = said(sys.executable, os.path.join(PACKAGING, "deb"), PROGRAM, os.path.join(root, "tmp", "debs")).split()
+        return ["chroot", root, "dpkg", "-i", *[f"/tmp/debs/{os.path.basename(path)}" for path in paths]]
+
+    @needs_debian
     def test_new_debian(self) -> None:
         """Both packages in a new Debian: installed, started as the unit does it, served, and removed."""
         with tempfile.TemporaryDirectory() as folder:
             root = os.path.join(folder, "root")
-            said("mmdebstrap", "--quiet", "--variant=minbase", "--include=python3", "bookworm", root)
-            paths = said(sys.executable, os.path.join(PACKAGING, "deb"), PROGRAM, os.path.join(root, "tmp", "debs")).split()
+            install = self.debian(root, "python3")
             before = files_of(root)
-            said("chroot", root, "dpkg", "-i", *[f"/tmp/debs/{os.path.basename(path)}" for path in paths])
+            said(*install)
             added = files_of(root) - before
             for name in WANTED:
                 self.assertIn(name, added)
@@ -156,6 +200,23 @@ class Packaging(unittest.TestCase):
                     self.assertEqual(next(keeping).split()[0], event)
                     self.assertEqual(said("chroot", root, "tabd-cli", "--server", port, "read", "route", "alice"), "{route,alice,7}\n")
         shutil.rmtree(kept)
+
+
+    @needs_debian
+    @unittest.skipUnless(shutil.which("systemd-nspawn"), "there is no systemd-nspawn")
+    def test_under_systemd(self) -> None:
+        """The units under systemd, in a container that a script turns off: TRY, whose output is BOOTED."""
+        with tempfile.TemporaryDirectory() as folder:
+            root = os.path.join(folder, "root")
+            said(*self.debian(root, "python3,systemd-sysv"))
+            for path, text in (("root/try", TRY), ("etc/systemd/system/try.service", UNIT), ("etc/default/tabd-keep", "TABD_TABLES=route\n")):
+                with open(os.path.join(root, path), "w") as file:
+                    file.write(text)
+            said("chroot", root, "systemctl", "enable", "try", "tabd", "tabd-socket", "tabd-keep")
+            words = ["systemd-nspawn", "-D", root, "--register=no", "--keep-unit", "--private-network", "--boot"]
+            subprocess.run(words, stdin=subprocess.DEVNULL, stdout=subprocess.DEVNULL, stderr=subprocess.DEVNULL, timeout=300)
+            with open(os.path.join(root, "root/said")) as said_inside:
+                self.assertEqual(said_inside.read(), BOOTED)
 
 
 @contextlib.contextmanager

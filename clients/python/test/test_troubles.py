@@ -287,7 +287,7 @@ class Troubled(Patient):
         with self.started("--server", "1", "keep", os.path.join(self.folder, "kept"), "t") as process:
             assert process.stderr is not None
             line = process.stderr.readline()
-            self.assertEqual(line, "tabd-cli keep: no connection to 127.0.0.1:1: [Errno 111] Connection refused; tries again\n")
+            self.assertEqual(line, "tabd-cli keep: no connection to 127.0.0.1:1: Connection refused; tries again\n")
             os.killpg(process.pid, signal.SIGINT)
             self.assertEqual(process.communicate(timeout=SECONDS), ("", "tabd-cli keep: interrupted\n"))
         self.assertEqual(process.returncode, 130)
@@ -408,13 +408,15 @@ class Writing(threading.Thread):
         self.client.close()
 
     def run(self) -> None:
-        value = 0
         while not self.stopping.is_set():
-            value += 1
-            transaction = self.client.run(lambda t: t.write(("k", 0, value)) or t)
+            transaction = self.client.run(self.change)
             assert transaction.commit is not None
-            self.values.append((transaction.commit, value))
+            self.values.append((transaction.commit, len(self.values) + 1))
             time.sleep(0.001)
+
+    def change(self, t: tabd.Transaction) -> tabd.Transaction:
+        t.write(("k", 0, len(self.values) + 1))
+        return t
 
     def last(self, commit: int) -> int:
         """The number as of this commit."""

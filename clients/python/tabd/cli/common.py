@@ -6,6 +6,7 @@ import argparse
 import contextlib
 import json
 import os
+import re
 import signal
 import sys
 from typing import Any, Callable, Dict, Iterator, Optional, Tuple, Type, Union
@@ -29,6 +30,8 @@ MEANINGS: Dict[Type[tabd.Refused], str] = {
 
 
 MOST = 1 << 62
+# What Python writes before the system's own text.
+ERRNO = re.compile(r"\[Errno -?\d+\] ")
 OUTPUT = "standard output"
 
 
@@ -53,7 +56,7 @@ def explain(error: Exception) -> str:
                 text = f"{text}: {meaning}"
     elif isinstance(error, OSError) and error.strerror:
         text = error.strerror if error.filename is None else f"{error.filename or repr('')}: {error.strerror}"
-    return " ".join(text.split()) or type(error).__name__
+    return " ".join(ERRNO.sub("", text).split()) or type(error).__name__
 
 
 @contextlib.contextmanager

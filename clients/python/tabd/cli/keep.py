@@ -25,7 +25,7 @@ from typing import Any, Callable, Dict, List, NamedTuple, Optional, Tuple, Union
 
 import tabd
 
-from .common import Failure, flush, fraction, say_line, say_object, server_of
+from .common import Failure, explain, flush, fraction, say_line, say_object, server_of
 from .dump import Calls, Definition, Source, definition, exists, is_empty, make, opened, take
 from .load import Loader
 from .store import Store
@@ -93,9 +93,9 @@ class Keeper:
             try:
                 self._serve()
             except tabd.Closed as error:
-                if str(error) != noted:
-                    noted = str(error)
-                    self.note(f"{error}; tries again")
+                if explain(error) != noted:
+                    noted = explain(error)
+                    self.note(f"{noted}; tries again")
             except (tabd.NoExists, tabd.Locked):
                 # A table went before it was locked, or a transaction holds a lock in one that is to be deleted.
                 pass
