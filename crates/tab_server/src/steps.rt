@@ -1,7 +1,8 @@
 //! The commands of a connection's requests, as steps of its session.
 
-ghost use Rattle.std.specs.Prelude.{◌≡◌, ◌≢◌, IfSome};
+ghost use Rattle.std.specs.Prelude.{◌≡◌, ◌≢◌, IfSome, IsOk, IsTrue};
 ghost use Rattle.tab_model.specs.declared.data.Reply.TheVariants as reply;
+ghost use Rattle.tab_model.specs.Outcome.{is_abort};
 
 use crate::gate::{Count, Gate};
 use crate::next::is_abort_in;
@@ -50,7 +51,10 @@ impl<'a, H: Host, W: Write, G: Gate> Requests<'a, H, W, G> {
     /// rests first.
     fn answer(&mut self, command: Command) -> SharedReply {
         if matches!(command, Command::OneShot(..)) {
-            return self.one_shot(command);
+            let alloc = self.alloc;
+            let told = one_shot(self, alloc, command);
+            self.count_end(told.reply());
+            return told;
         }
         let Ok(told) = self.make(command) else {
             return SharedReply::new(Reply::NoMemory);
@@ -74,14 +78,12 @@ impl<'a, H: Host, W: Write, G: Gate> Requests<'a, H, W, G> {
         self.rest(naps);
     }
 
-    fn one_shot(&mut self, command: Command) -> SharedReply {
-        let alloc = self.alloc;
-        let told = one_shot(self, alloc, command);
-        if matches!(told.reply(), Reply::NoMore) {
+    /// Counts a one-shot whose restarts were used up: its driver is not told to begin again after the last.
+    fn count_end(&self, reply: &Reply) {
+        if matches!(reply, Reply::NoMore) {
             self.answers.counts().count(Count::Restarts, 1);
             self.answers.counts().count(Count::GivenUp, 1);
         }
-        told
     }
 
     /// The book is given back, and what the steps under its hold did is counted.
@@ -91,7 +93,9 @@ impl<'a, H: Host, W: Write, G: Gate> Requests<'a, H, W, G> {
     }
 
     /// One step of the session; the book stays held.
-    pub fn make(&mut self, command: Command) -> Result<SharedReply, AllocError> {
+    pub fn make(&mut self, command: Command) -> Result<SharedReply, AllocError>
+        ensures { IsTrue (is_abort command) → IsOk result }
+    {
         let answered = self.held.step(&self.seat, Step::Do(command))?;
         Ok(self.reply_to(answered))
     }
