@@ -202,7 +202,6 @@ def test_slow_transactions(server: Server) -> None:
     assert re.fullmatch(r"tabd: session 1 had a transaction open for \d+ s\n", server.log()), "a commit"
     second.close()
     assert re.fullmatch(r"tabd: session 2 had a transaction open for \d+ s\n", server.log()), "an end"
-    server.is_stopped()
 
 
 @seats(3)

@@ -78,7 +78,7 @@ impl<'a, H: Host, W: Write, G: Gate> Requests<'a, H, W, G> {
         self.rest(naps);
     }
 
-    /// Counts a one-shot whose restarts were used up: its driver is not told to begin again after the last.
+    /// Counts a one-shot whose restarts were used up: its driver does not begin again after the last.
     fn count_end(&self, reply: &Reply) {
         if matches!(reply, Reply::NoMore) {
             self.answers.counts().count(Count::Restarts, 1);
