@@ -128,6 +128,11 @@ class Proxy:
             self.end()
 
 
+def heed_interrupts() -> None:
+    """A background job of a shell ignores SIGINT, and so does each process that it starts."""
+    signal.signal(signal.SIGINT, signal.SIG_DFL)
+
+
 @unittest.skipUnless(PROGRAM, "TABD names no program")
 class Troubled(Patient):
     def setUp(self) -> None:
@@ -244,7 +249,7 @@ class Troubled(Patient):
 
     def started(self, *words: str, **more: Any) -> subprocess.Popen[str]:
         command = [sys.executable, "-m", "tabd", *words]
-        pipes: Dict[str, Any] = {"stdout": subprocess.PIPE, "stderr": subprocess.PIPE, **more}
+        pipes: Dict[str, Any] = {"stdout": subprocess.PIPE, "stderr": subprocess.PIPE, "preexec_fn": heed_interrupts, **more}
         return subprocess.Popen(command, cwd=os.path.join(HERE, ".."), text=True, start_new_session=True, **pipes)
 
     def interrupted(self, number: int, proxy: Proxy, *words: str) -> Tuple[int, str, str]:
@@ -254,7 +259,10 @@ class Troubled(Patient):
             time.sleep(0.02)
             # As the terminal does it: to all processes of the command.
             os.killpg(process.pid, number)
-            out, err = process.communicate(timeout=SECONDS)
+            try:
+                out, err = process.communicate(timeout=SECONDS)
+            finally:
+                process.kill()
         return process.returncode, out, err
 
     def test_interrupt(self) -> None:
