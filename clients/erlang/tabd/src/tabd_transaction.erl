@@ -258,11 +258,13 @@ dirty(Operation) ->
         {aborted, Reason} -> exit({aborted, reason(Reason)})
     end.
 
-%% The back-off before each attempt is a tenth of a second at most, and no abort ends it.
+%% The back-off before each attempt is a second at most, and no abort ends it: in the last second each request makes one attempt.
 in_time(Connection, Operation, Deadline) ->
     Left = max(0, Deadline - erlang:monotonic_time(millisecond)),
-    case tabd_connection:request(Connection, {transaction, [Operation], max(1, min(1000, (Left + 99) div 100))}) of
-        {reply, {aborted, nomore}} when Left > 100 -> in_time(Connection, Operation, Deadline);
+    case tabd_connection:request(Connection, {transaction, [Operation], min(1000, Left div 1000)}) of
+        {reply, {aborted, nomore}} when Left > 100 ->
+            timer:sleep(20),
+            in_time(Connection, Operation, Deadline);
         {reply, {aborted, nomore}} -> {reply, {aborted, lock_timeout}};
         Outcome -> Outcome
     end.

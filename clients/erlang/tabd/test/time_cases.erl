@@ -165,7 +165,7 @@ two_levels() ->
     played().
 
 one_shot_cut() ->
-    Cut = fun(First) -> [{{transaction, [{write, {t, 1, 1}}], 4}, silent}, ?CUT({[{reply, First}], {error, no_transaction}, []})] end,
+    Cut = fun(First) -> [{{transaction, [{write, {t, 1, 1}}], 0}, silent}, ?CUT({[{reply, First}], {error, no_transaction}, []})] end,
     script(Cut({aborted, nowait}) ++ Cut({atomic, [ok]}), #{lock_timeout => 400}),
     same(catch tabd:dirty_write({t, 1, 1}), {'EXIT', {aborted, lock_timeout}}),
     same(tabd:dirty_write({t, 1, 1}), ok),
