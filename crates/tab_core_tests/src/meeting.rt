@@ -250,7 +250,7 @@ fn reply_to<P: Post + Drop>(core: &mut Core<P>, ask: Ask<()>) -> SharedReply {
     }
 }
 
-/// What a Take replies, by the two ends of the mailbox.
+/// The reply of a Take, by the two ends of the mailbox.
 fn met<H: Host>(core: &mut Core<ChannelPost<H>>, inbox: &mut Inbox<H>) -> SharedReply {
     match core.meet(1, inbox) {
         Some(Met::Going(item)) => SharedReply::new(Reply::Taken(item)),
@@ -300,7 +300,7 @@ fn differs_by_meet<H: Host>(
     Ok(None)
 }
 
-/// Whether a row has its replies over both.
+/// Returns whether a row has its replies over both.
 fn is_same<H: Host>(
     rt: H,
     alloc: Global,

@@ -12,7 +12,7 @@ use crate::rule::{InOrder, PassView, Sent};
 use crossbeam_channel::{Pass, RuledSender, TrySendError};
 use tab_outbox::{Post, Refused, SharedItem};
 
-/// What names a mailbox: its channel, as its sender knows it.
+/// The name of a mailbox: its channel, as its sender knows it.
 pub type Channel = RuledSender<SharedItem, PassView, InOrder>;
 
 /// The sending end of a mailbox.

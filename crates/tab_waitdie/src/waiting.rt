@@ -19,7 +19,7 @@ pub(crate) struct Waiting {
     pub lock: Lock,
 }
 
-/// Whose requests of these one for this lock conflicts with.
+/// The queued requests that a request for this lock conflicts with: none, only younger ones, or an older one.
 pub(crate) fn conflicts_in(queue: &[Waiting], age: u64, lock: &Lock) -> Conflict
     ensures { result ≡ conflict_with (age, lock_of lock.now) (queued queue.now) }
 {
@@ -85,7 +85,7 @@ pub(crate) fn is_queued(queue: &[Waiting], age: u64) -> bool
     queue.iter().any(|waiting| waiting.age == age)
 }
 
-/// Where the request of this age stands.
+/// The index of the request of this age.
 pub(crate) fn place_of(queue: &[Waiting], age: u64) -> usize
     requires { IsSome (request_of age (queued queue.now)) }
     ensures within { result < length queue.now }
