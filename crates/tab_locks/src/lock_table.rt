@@ -1,4 +1,4 @@
-ghost use Rattle.std.specs.Prelude.{◌≡◌, [], ◌∷◌, ◌++◌, is_ok, if◌then◌else◌, OnOk, OnErr, IfOk, IfErr, IsFalse};
+ghost use Rattle.std.specs.Prelude.{◌≡◌, [], ◌∷◌, ◌++◌, ◌==◌, filter, is_ok, if◌then◌else◌, OnOk, OnErr, IfOk, IfErr, IsFalse};
 ghost use Rattle.std.specs.List.{list_any};
 ghost use Rattle.std.specs.Str.{bytes_eq};
 ghost use Rattle.tab_model.specs.Ages.{covers_own, without};
@@ -6,7 +6,7 @@ ghost use Rattle.tab_model.specs.State.{is_in};
 ghost use Rattle.tab_locks.specs.Plain.{lock_of, part_of};
 ghost use Rattle.tab_locks.specs.Spots.{same_part, same_lock};
 ghost use Rattle.tab_locks.specs.Members.{HasMore, SameMembers, Drops};
-ghost use Rattle.tab_locks.specs.Placed.{placed, without_last, listed, is_of, conflict_with, standing as standing_of, in_the_way, conflict_in, after_asked, GivesBack};
+ghost use Rattle.tab_locks.specs.Placed.{owned_by, placed, without_last, listed, is_of, conflict_with, standing as standing_of, in_the_way, conflict_in, after_asked, GivesBack};
 ghost use Rattle.tab_locks.specs.Questions.{meets_at};
 ghost use Rattle.tab_locks.specs.declared.lock_table.Conflict.TheVariants.{WithYounger, WithOlder};
 ghost use Rattle.tab_locks.specs.declared.lock_table.Asked.TheVariants.{Held};
@@ -114,6 +114,16 @@ impl LockTable {
             return None;
         }
         Some(self.conflicts(age, lock))
+    }
+
+    /// The locks of this owner, in the order in which they were granted. It takes no memory.
+    pub fn of(&self, age: u64) -> &[Lock]
+        ensures { owned_by age result.now ≡ filter (λ x. x.0 == age) self.now }
+    {
+        match self.owners.get(&age) {
+            Some(locks) => locks.as_slice(),
+            None => &[],
+        }
     }
 
     /// Returns whether some lock is on this table, or on a key of it.
