@@ -10,10 +10,9 @@ an `impl` of that type, in a table's row that names one file in that file, and i
 or of tab_model's or tab_proto's); each `--option` is in the program's help, in that of `rt`, in tests/conftest.py, in the text of a
 script that the same line names, or, on the page of tabd-cli, in its sources. Each file of definitions has a comment, and each crate a
 README.md. The frames of docs/PROTOCOL.md, "Bytes", are sent as printed, and are the encoding of the terms next to them. A line has one
-sentence and at most 160 columns, and a table's cell at most 120 characters, except in tables that a program writes. A sentence has at most 30
-words, README.md fewer than 90 lines, docs/PROOF.md fewer than 200, and all documents together at most 30,000 words, of which each has a letter
-or a digit: a table's bars and a list's dashes are none. One line reports each fault; the last line is `N passed, M failed`, and the status is
-1 if one failed. It takes some seconds.
+sentence and at most 160 columns, and a table's cell at most 120 characters, except in tables that a program writes. `.ci/lengths.py` has the
+lengths of sentences and of documents. One line reports each fault; the last line is `N passed, M failed`, and the status is 1 if one failed.
+It takes some seconds.
 
 No word of the table in CONTRIBUTING.md, "Write", is used more often than .ci/words.tsv allows. `--write` lowers its numbers to the current
 counts, and `--reset` sets them.
@@ -33,6 +32,7 @@ sys.path.insert(0, os.path.join(TOP, "examples"))
 import words  # noqa: E402
 from frames import frame, read, spell, take  # noqa: E402
 from words import DOCUMENTS  # noqa: E402
+from lengths import faults as long_parts  # noqa: E402
 
 # Names in documents that the repository doesn't have, with the reason.
 ELSEWHERE = {
@@ -74,13 +74,6 @@ README = re.compile(r"crates/(\w+)/README\.md")
 COLUMNS, CELL = 160, 120
 SENTENCE = re.compile(r'[.?!] +["(\[]?[A-Z]')
 LABEL = re.compile(r"[#\s]*(\d+\. |- )?")
-# The most words of a sentence and of all documents, and the most lines of two of them.
-SENTENCE_WORDS, ALL_WORDS, LINES = 30, 30_000, {"README.md": 89, "docs/PROOF.md": 199}
-# A word, a paragraph or an item of a list, the end of a sentence in it, and the target of a link.
-PART = re.compile(r"\S*\w\S*")
-BLOCK = re.compile(r"\n\s*\n|\n(?=\s*(?:[-#|]|\d+\.) )")
-END = re.compile(r"(?<=[.?!:])(?:\*\*)?\s+")
-TARGET = re.compile(r"\]\([^)]*\)")
 # A table that a program writes.
 WRITTEN = re.compile(r"^<!-- .*?^<!-- end -->", re.M | re.S)
 # `docs/PROTOCOL.md, "Events"`: a document and the beginning of a heading in it.
@@ -213,15 +206,6 @@ class Document:
                 self.check(len(line) <= COLUMNS, f"line {number} has more than {COLUMNS} columns")
                 text = LABEL.sub("", SPAN.sub("X", line), count=1)
                 self.check(not SENTENCE.search(text), f"line {number} has more than one sentence")
-
-    def lengths(self):
-        text = words.CODE.sub(words.blank, TARGET.sub("", SPAN.sub("X", words.TABLE.sub(words.blank, self.text))))
-        for block in BLOCK.split(text):
-            for sentence in [] if block.lstrip().startswith("|") else END.split(block):
-                count = len(PART.findall(sentence))
-                self.check(count <= SENTENCE_WORDS, f"a sentence has {count} words: {' '.join(sentence.split())}")
-        most = LINES.get(self.path)
-        self.check(most is None or self.text.count("\n") <= most, f"more than {most} lines")
 
     def headings(self):
         for name, head in HEADING.findall(self.text):
@@ -375,7 +359,7 @@ def main():
         return words.write(reset=sys.argv[1] == "--reset")
     program, tree = os.path.abspath(sys.argv[1]), Tree()
     helps = "".join(text_of([program, *words, "--help"]) for words in ([], ["serve"], ["replay"])) + "--help --version"
-    rt, faults, count, size = text_of(["rt", "help"]), [], 0, 0
+    rt, faults, count = text_of(["rt", "help"]), [], 0
     faults += [f"{it}: no comment says what it defines" for it in unexplained(tree)]
     faults += [f"{it}: the crate has no README.md" for it in pageless(tree)]
     for path in sorted(os.path.relpath(it, TOP) for pattern in DOCUMENTS for it in glob.glob(os.path.join(TOP, pattern))):
@@ -383,7 +367,6 @@ def main():
         document.names()
         document.headings()
         document.layout()
-        document.lengths()
         document.options(helps, rt)
         faults += document.faults
         count += document.count
@@ -393,10 +376,8 @@ def main():
                 faults += [f"{path}: {it}" for it in listing_faults(program, listing)]
             faults += [f"{path}: {it}" for it in term_faults(program, document.text)]
             count += sum(len(it.terms) for it in pages)
-        size += len(PART.findall(document.text))
-    faults += [f"all documents have {size} words, and {ALL_WORDS} is the most"] if size > ALL_WORDS else []
-    counted, risen = words.faults()
-    faults, count = faults + risen, count + counted + 1
+    for counted, more in (words.faults(), long_parts()):
+        faults, count = faults + more, count + counted
     for fault in faults:
         print(fault)
     print(f"{count - len(faults)} passed, {len(faults)} failed")
