@@ -6,6 +6,7 @@
 
 #![tactic(auto)]
 
+mod activity;
 mod bells;
 mod book;
 mod held;
@@ -14,6 +15,7 @@ mod shared;
 mod step;
 mod steps;
 
+pub use activity::{Activity, Doing};
 pub use book::Book;
 pub use held::Held;
 pub use shared::{Seat, Shared};

@@ -17,6 +17,7 @@ ghost use Rattle.tab_core.specs.Runs.{ask_of, asks_of, AllJoinEmpty, StepsTo, St
 ghost use Rattle.tab_core.specs.Steps.{takes_no_memory};
 
 mod committing;
+mod contended;
 mod dump;
 mod ending;
 mod joining;

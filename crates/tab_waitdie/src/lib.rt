@@ -7,6 +7,7 @@
 
 mod ages;
 mod resting;
+mod seen;
 mod waiting;
 
 pub use ages::{Ages, LockDecision, Retried, no_chain_of_waits_leads_back};

@@ -61,7 +61,7 @@ impl Ages {
 }
 
 /// The lock that the transaction of this age died for.
-fn lock_of(resting: &[Waiting], age: u64) -> Option<&Lock> {
+pub(crate) fn lock_of(resting: &[Waiting], age: u64) -> Option<&Lock> {
     for waiting in resting {
         if waiting.age == age {
             return Some(&waiting.lock);

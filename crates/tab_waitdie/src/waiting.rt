@@ -41,7 +41,7 @@ fn any_blocking(queue: &[Waiting], age: u64, lock: &Lock) -> bool
     queue.iter().any(|waiting| blocks(age, lock, waiting))
 }
 
-fn opposes(age: u64, lock: &Lock, waiting: &Waiting) -> bool
+pub(crate) fn opposes(age: u64, lock: &Lock, waiting: &Waiting) -> bool
     ensures { result ≡ opposes_of (age, lock_of lock.now) (owned waiting.now) }
 {
     waiting.age != age && conflict(lock, &waiting.lock)
@@ -53,7 +53,7 @@ fn blocks(age: u64, lock: &Lock, waiting: &Waiting) -> bool
     opposes(age, lock, waiting) && !(age < waiting.age)
 }
 
-fn conflict(asked: &Lock, other: &Lock) -> bool
+pub(crate) fn conflict(asked: &Lock, other: &Lock) -> bool
     ensures { result ≡ conflict_of (lock_of asked.now) (lock_of other.now) }
 {
     asked.table == other.table
