@@ -88,7 +88,5 @@ fn is_opposed_by(queue: &[Waiting], age: u64, lock: &Lock, other: u64) -> bool
     ensures { result
         ≡ list_any (λ w. opposes_of (age, lock_of lock.now) (owned w) && (w.age == other)) queue.now }
 {
-    queue
-        .iter()
-        .any(|waiting| opposes(age, lock, waiting) && waiting.age == other)
+    queue.iter().any(|waiting| opposes(age, lock, waiting) && waiting.age == other)
 }
