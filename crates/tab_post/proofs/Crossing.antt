@@ -71,7 +71,10 @@ module _ (H : RattleType) (names : Ghosts H.Denot) where
           search (sending_marks.the_send, rows_marks.the_send, rows_marks.the_sync, badge_marks.the_send, option_marks.the_send, item_send, global_marks.the_send, global_marks.the_sync, heap_marks.the_frees) depth 12,
           (
             pass_send,
-            (as_row_send u64-field (plain_send _ _ _ _ _), (as_row_send u64-field (plain_send _ _ _ _ _), (search prefix_send, tt))),
+            (
+              as_row_send u64-field (plain_send _ _ _ _ _),
+              (as_row_send u64-field (plain_send _ _ _ _ _), (as_row_send u64-field (plain_send _ _ _ _ _), (search prefix_send, tt))),
+            ),
           ),
         ),
       )
