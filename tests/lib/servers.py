@@ -9,7 +9,7 @@ import resource
 import subprocess
 import threading
 import time
-from typing import Any, Callable, Dict, Optional, Tuple, TypeVar
+from typing import Any, Callable, Dict, List, Optional, Tuple, TypeVar
 
 from tests.lib.checks import LIMIT, same, soon
 from tests.lib.wire import Connection, Place, Term, frame
@@ -61,6 +61,9 @@ class Server:
 
     def connect(self, small: bool = False) -> Connection:
         return Connection(self.place, small)
+
+    def clients(self, count: int) -> List[Connection]:
+        return [self.connect() for _ in range(count)]
 
     def ends(self, status: int = 0, said: str = "") -> None:
         """By itself, and says no more than this, on standard error."""
