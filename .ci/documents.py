@@ -18,7 +18,6 @@ counts, and `--reset` sets them.
 """
 
 import glob
-import io
 import os
 import re
 import socket
@@ -27,9 +26,10 @@ import sys
 
 HERE = os.path.dirname(os.path.abspath(__file__))
 TOP = os.path.dirname(HERE)
-sys.path.insert(0, os.path.join(TOP, "examples"))
+sys.path.insert(0, TOP)
 import words  # noqa: E402
-from frames import frame, read, spell, take  # noqa: E402
+from tests.lib.notation import terms_of  # noqa: E402
+from tests.lib.wire import frame, frames_of, spell, term_of  # noqa: E402
 from words import DOCUMENTS  # noqa: E402
 
 # Names in documents that the repository doesn't have, with the reason.
@@ -83,7 +83,6 @@ ESCAPE = re.compile(r"\\x[0-9a-f]{2}")
 BYTES = re.compile(r"[0-9A-F]{8}(?: [0-9A-F]+)*")
 FRAME = re.compile(rf"    ([<>]) (.*?)(?:\s+({BYTES.pattern}))?")
 JOINS = re.compile(r"    \((\d+) to (\d+) join in the same way\)")
-TOKEN = re.compile(r"<<|>>|[{}\[\],]|-?\d+|[a-z][\w@]*|'[^']*'")
 
 
 def read_text(path):
@@ -245,24 +244,6 @@ def text_of(words):
         return None
 
 
-def term_of(text):
-    """A term as Erlang writes it."""
-    tokens = TOKEN.findall(text)
-
-    def term(at):
-        word = tokens[at]
-        close = {"{": "}", "[": "]", "<<": ">>"}.get(word)
-        if close is None:
-            return (int(word) if word.lstrip("-").isdigit() else word.strip("'")), at + 1
-        members, at = [], at + 1
-        while tokens[at] != close:
-            member, at = term(at + (tokens[at] == ","))
-            members.append(member)
-        return {"{": tuple, "[": list, "<<": bytes}[word](members), at + 1
-
-    return term(0)[0]
-
-
 class Listing:
     """Frames of requests and replies, from a first one on, and the terms next to them."""
 
@@ -291,13 +272,6 @@ def listings(text):
             yield Listing(block.rstrip("\n").split("\n"))
 
 
-def frames_of(data):
-    stream, frames = io.BytesIO(data), []
-    while head := stream.read(4):
-        frames.append(head + take(stream, int.from_bytes(head, "big")))
-    return frames
-
-
 def served(program, listing):
     """The frames that a connection receives: replies, and events between them, in no order relative to them."""
     server = subprocess.Popen([program, "serve", "--port", "0", "--connections", "1"], stdout=subprocess.PIPE)
@@ -306,14 +280,14 @@ def served(program, listing):
         with socket.create_connection(("127.0.0.1", port), 10) as connection:
             connection.sendall(b"".join(listing.asked))
             connection.shutdown(socket.SHUT_WR)
-            return frames_of(b"".join(iter(lambda: connection.recv(65_536), b"")))
+            return frames_of(b"".join(iter(lambda: connection.recv(65_536), b"")))[0]
     finally:
         server.kill()
         server.wait()
 
 
 def replayed(program, given):
-    return frames_of(subprocess.run([program, "replay"], input=given, capture_output=True, check=False).stdout)
+    return frames_of(subprocess.run([program, "replay"], input=given, capture_output=True, check=False).stdout)[0]
 
 
 def parted(frames):
@@ -324,7 +298,7 @@ def parted(frames):
 
 def listing_faults(program, listing):
     for text, data in listing.terms:
-        wanted = bytes(4) if text == "an empty payload" else frame(term_of(text))
+        wanted = bytes(4) if text == "an empty payload" else frame(next(terms_of(text)))
         if data != wanted:
             yield f"{text}: its bytes are {wanted.hex()}"
     told = served(program, listing) if listing.is_served() else replayed(program, b"".join(listing.asked))
@@ -332,7 +306,7 @@ def listing_faults(program, listing):
     for found, wanted in pairs:
         if found != wanted:
             at = next((at for at, pair in enumerate(zip(found, wanted)) if pair[0] != pair[1]), min(len(found), len(wanted)))
-            shown = [read(io.BytesIO(it[at][5:])) if at < len(it) else None for it in (found, wanted)]
+            shown = [term_of(it[at]) if at < len(it) else None for it in (found, wanted)]
             yield f"frame {at + 1}: the program sends {shown[0]} ({found[at].hex() if at < len(found) else ''}), the page has {shown[1]}"
 
 
@@ -346,8 +320,9 @@ def term_faults(program, text):
         payload = b"\x83" + spell((1, ("abort", 0)))[:-2] + data
         asked += [frame((1, "begin")), len(payload).to_bytes(4, "big") + payload]
     for (term, data), told in zip(terms, replayed(program, b"".join(asked))[2::2]):
-        if spell(term_of(term)) != data or not told.endswith(spell((1, ("aborted", 0)))[:-2] + data):
-            yield f"{term}: the program writes {told.hex()}, and its bytes are {spell(term_of(term)).hex()}"
+        its = spell(next(terms_of(term)))
+        if its != data or not told.endswith(spell((1, ("aborted", 0)))[:-2] + data):
+            yield f"{term}: the program writes {told.hex()}, and its bytes are {its.hex()}"
 
 
 def main():
