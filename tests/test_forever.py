@@ -178,7 +178,8 @@ def test_a_log(server: Server) -> None:
     assert (third.receive(), server.log()) == (LIMIT, "tabd: no seat for a connection\n"), "the third"
     script((writer, CREATE, ATOMIC), (reader, watch(), HERE_OK))
     fill_outbox(writer, 200)
-    assert server.log() == f"tabd: session 1 lost its events from commit {overflow(reader)} on\n", "an overflow"
+    lost = overflow(reader)
+    assert server.log() == f"tabd: session 1 lost its events from commit {lost} on\n", "an overflow"
     writer.break_off()
     assert server.log() == "tabd: session 2 has ended\n", "an end"
     reader.close()

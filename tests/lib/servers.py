@@ -62,7 +62,7 @@ class Server:
     def connect(self, small: bool = False) -> Connection:
         return Connection(self.place, small)
 
-    def clients(self, count: int) -> List[Connection]:
+    def clients(self, count: int) -> List[Any]:
         return [self.connect() for _ in range(count)]
 
     def ends(self, status: int = 0, said: str = "") -> None:

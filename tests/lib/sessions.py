@@ -2,7 +2,7 @@
 their outboxes. It shares no code with the server.
 """
 
-from typing import Any, Dict, Iterator, List, Optional
+from typing import Dict, Iterator, List, Optional
 
 from tests.lib.checks import HERE_OK
 from tests.lib.model import EMPTY, Alone, Lock, Table, Tables, Update, conflict, events, lock_of, mirror, updated, whole
