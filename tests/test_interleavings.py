@@ -11,7 +11,7 @@ from typing import Any, Callable, Dict, List
 
 import pytest
 
-from tests.lib.checks import ATOMIC, CREATE, HERE_OK, OK, change, committed, gets, one_shot, opened, script, watch, write
+from tests.lib.checks import ATOMIC, CREATE, HERE_OK, OK, committed, gets, opened, script, watch, write
 from tests.lib.refusing import built
 from tests.lib.rounds import Rounds
 from tests.lib.servers import Server
@@ -22,9 +22,6 @@ pytestmark = pytest.mark.usefixtures("plain")
 # So many waits at once, each for a lock of its own, in so many turns; their ends are watched by so many sessions. A session that waits asks for
 # its lock once more after twenty milliseconds, and the locks are free at about that time.
 WAITS, TURNS, WATCHERS, FREE = 8, 20, 2, (0.015, 0.025)
-# Meanwhile so many other sessions look so many times at a table of so many records, so that threads wait for the book, and wake one another.
-BUSY, ASKED, RECORDS = 4, 100, 1_000
-LOOK = one_shot(("match_object", ("u", "_", "none")))
 ROUND = 0.6
 
 
@@ -57,17 +54,14 @@ def is_loaded(server: Server, library: str) -> bool:
         return library in file.read()
 
 
-def turn(older: List[Connection], younger: List[Connection], busy: List[Connection], value: int, chance: random.Random) -> None:
+def turn(older: List[Connection], younger: List[Connection], value: int, chance: random.Random) -> None:
     """Each of the older waits for one of the younger, which all commit at once."""
     opened(*older, *younger)
     for key, connection in enumerate(younger):
         script((connection, write(key, value), OK))
     for key, connection in enumerate(older):
         connection.send(("wread", ("t", key)))
-    time.sleep(FREE[0])
-    for connection in busy:
-        connection.send(*[LOOK] * ASKED)
-    time.sleep(chance.uniform(0, FREE[1] - FREE[0]))
+    time.sleep(chance.uniform(*FREE))
     for connection in chance.sample(younger, len(younger)):
         connection.send("commit")
     for connection in younger:
@@ -75,23 +69,19 @@ def turn(older: List[Connection], younger: List[Connection], busy: List[Connecti
     for key, connection in enumerate(older):
         gets(connection, [("t", key, value)])
         committed(connection)
-    for connection in busy:
-        gets(connection, *[("atomic", [[]])] * ASKED)
 
 
 def test_who_waits_is_woken(serve: Callable[..., Server], library: str, delayed: Dict[str, Any], seed: int) -> None:
     """A session that is not woken sleeps for ever, however busy the machine is, so its reply never comes."""
     delayed["env"]["ENDLESS"] = "1"
-    server = serve("--connections", str(2 * WAITS + WATCHERS + BUSY), **delayed)
+    server = serve("--connections", str(2 * WAITS + WATCHERS), **delayed)
     if not is_loaded(server, library):
         pytest.skip("the program takes no LD_PRELOAD")
-    older, younger, watchers, busy = (server.clients(count) for count in (WAITS, WAITS, WATCHERS, BUSY))
-    chance = random.Random(seed)
-    script((older[0], CREATE, ATOMIC), (older[0], ("create_table", "u", []), ATOMIC), *((watcher, watch(), HERE_OK) for watcher in watchers))
-    change(older[0], *(("write", ("u", key, key)) for key in range(RECORDS)))
+    connections, watchers, chance = server.clients(2 * WAITS), server.clients(WATCHERS), random.Random(seed)
+    script((connections[0], CREATE, ATOMIC), *((watcher, watch(), HERE_OK) for watcher in watchers))
     for value in range(TURNS):
         try:
-            turn(older, younger, busy, value, chance)
+            turn(connections[:WAITS], connections[WAITS:], value, chance)
         except TimeoutError:
             pytest.fail(f"seed {seed}, turn {value}: a session that waits was not woken")
         for watcher in watchers:

@@ -39,7 +39,7 @@ static uint64_t next(void) {
 }
 
 __attribute__((constructor)) static void start(void) {
-    static const unsigned often[] = {0, 1, 3, 20}, nanoseconds[] = {20000, 200000, 1500000};
+    static const unsigned often[] = {0, 1, 3, 20}, nanoseconds[] = {50000, 500000, 5000000};
     uint64_t x = seed = strtoull(getenv("SEED"), 0, 10);
     for (int kind = 0; kind < KINDS; kind++)
         before[kind] = often[(x = mixed(x + 1)) % 4], after[kind] = often[(x >> 8) % 4];
