@@ -261,44 +261,48 @@ def test_the_start(replay: Any) -> None:
     assert not faults_of(replay, row_end, ROWS[0], 0)
 
 
-@pytest.mark.parametrize("stream", ROWS, ids=[stream.name for stream in ROWS])
+def each(name: str, cases: List[Any]) -> pytest.MarkDecorator:
+    return pytest.mark.parametrize(name, cases, ids=[case.name for case in cases])
+
+
+@each("stream", ROWS)
 def test_stream(replay: Any, stream: Any) -> None:
     assert not faults_of(replay, row_end, stream, 1)[:5]
 
 
-@pytest.mark.parametrize("case", SHOTS, ids=[case.name for case in SHOTS])
+@each("case", SHOTS)
 def test_one_shot(replay: Any, case: Any) -> None:
     assert not faults_of(replay, one_shot_end, case, len(case.given))[:5]
 
 
-@pytest.mark.parametrize("case", IN_STREAMS, ids=[case.name for case in IN_STREAMS])
+@each("case", IN_STREAMS)
 def test_one_shot_of_a_stream(replay: Any, case: Any) -> None:
     assert not faults_in_stream(replay, case)[:5]
 
 
 @pytest.mark.wrong
-@pytest.mark.parametrize("stream", ROWS, ids=[stream.name for stream in ROWS])
+@each("stream", ROWS)
 @pytest.mark.parametrize("wrong", WRONG)
 def test_a_wrong_program_is_found(replay: Any, wrong: Any, stream: Any) -> None:
     assert faults_of(replay, row_end, stream, 1, **wrong)
 
 
 @pytest.mark.wrong
-@pytest.mark.parametrize("case", SHOTS, ids=[case.name for case in SHOTS])
+@each("case", SHOTS)
 @pytest.mark.parametrize("wrong", WRONG)
 def test_a_wrong_program_is_found_by_a_one_shot(replay: Any, wrong: Any, case: Any) -> None:
     assert faults_of(replay, one_shot_end, case, len(case.given), **wrong)
 
 
 @pytest.mark.wrong
-@pytest.mark.parametrize("case", IN_STREAMS, ids=[case.name for case in IN_STREAMS])
+@each("case", IN_STREAMS)
 @pytest.mark.parametrize("wrong", WRONG)
 def test_a_wrong_program_is_found_by_a_one_shot_of_a_stream(replay: Any, wrong: Any, case: Any) -> None:
     assert faults_in_stream(replay, case, **wrong)
 
 
 @pytest.mark.wrong
-@pytest.mark.parametrize("case", BEGUN, ids=[case.name for case in BEGUN])
+@each("case", BEGUN)
 @pytest.mark.parametrize("left", LEAVES)
 def test_what_a_one_shot_leaves_is_found(replay: Any, left: Any, case: Any) -> None:
     assert faults_in_stream(replay, case, left([*case.tables, "t"][0]))
