@@ -1,6 +1,6 @@
 """`tabd serve --forever`, which serves as many concurrent connections as its option says and never ends.
 
-Each case has a server of its own: one at a port, and if the two kinds of socket may differ one at a socket file too.
+Each case has servers of its own: one at a port, and one at a socket file.
 """
 
 import random
@@ -16,15 +16,8 @@ from tests.lib.checks import opened, overflow, read_waits, script, waits, watch,
 from tests.lib.servers import Server, descriptors, forever
 from tests.lib.wire import frame
 
-# Those that are run at a socket file too: what waits, breaks off, is idle, or leaves a descriptor.
-at_both = pytest.mark.parametrize("place", ["at a port", "at a file"])
 seats = pytest.mark.seats
-pytestmark = pytest.mark.serial
-
-
-@pytest.fixture
-def place() -> str:
-    return "at a port"
+pytestmark = [pytest.mark.serial, pytest.mark.parametrize("place", ["at a port", "at a file"])]
 
 
 @pytest.fixture
@@ -40,7 +33,6 @@ def server(request: pytest.FixtureRequest, tabd: str, passed: Callable[[], bool]
 
 
 @seats(8)
-@at_both
 def test_the_ninth_is_refused(server: Server) -> None:
     """A connection too many is refused and closed, and the others go on; after one has left another is served."""
     connections = server.clients(8)
@@ -55,7 +47,6 @@ def test_the_ninth_is_refused(server: Server) -> None:
 
 
 @seats(2)
-@at_both
 def test_a_pause(server: Server) -> None:
     """The server waits for the only client, which has sent many requests, without using a processor, and keeps its transaction."""
     connection = server.connect()
@@ -69,7 +60,6 @@ def test_a_pause(server: Server) -> None:
 
 
 @seats(2)
-@at_both
 def test_tables_outlive_connections(server: Server) -> None:
     """All have left, one during a transaction, and the next client finds what was committed."""
     first, second = server.clients(2)
@@ -84,7 +74,6 @@ def test_tables_outlive_connections(server: Server) -> None:
 
 
 @seats(8)
-@at_both
 def test_a_thousand_connections(server: Server, sanitizer: Any) -> None:
     """A thousand connections, one after the other, leave no thread, no descriptor and no memory."""
     held = server.clients(7)
@@ -104,7 +93,6 @@ def test_a_thousand_connections(server: Server, sanitizer: Any) -> None:
 
 # A descriptor that is free again may be too few for the next, so there may be a line for each connection that ends.
 @seats(64, files=20, said="(tabd: no connection was accepted\n){1,12}")
-@at_both
 def test_out_of_descriptors(server: Server) -> None:
     """If no connection can be accepted it prints a line, once and not at each attempt, and goes on as soon as one can."""
     connections = server.clients(12)
@@ -116,7 +104,6 @@ def test_out_of_descriptors(server: Server) -> None:
 
 
 @seats(3, "--idle", "1", said="tabd: session 2 was idle\n")
-@at_both
 @pytest.mark.tries(3)
 def test_idle(server: Server) -> None:
     """An idle transaction ends, with its connection, and its locks are released. A session that waits for its lock, and a session without
@@ -139,7 +126,6 @@ def test_idle(server: Server) -> None:
 
 
 @seats(3, "--idle", "60")
-@at_both
 def test_a_server_that_is_stopped(server: Server) -> None:
     """A server that is stopped and goes on keeps its sessions and their transactions, with a time limit on their reads too: of a session from
     which a request is expected, and of one that waits for a lock."""
@@ -153,7 +139,6 @@ def test_a_server_that_is_stopped(server: Server) -> None:
 
 
 @seats(2, "--idle", "1")
-@at_both
 @pytest.mark.tries(3)
 def test_a_reader_that_takes_nothing(server: Server) -> None:
     """A client that reads nothing for so long is disconnected, so that another can be served."""
@@ -167,7 +152,6 @@ def test_a_reader_that_takes_nothing(server: Server) -> None:
 
 
 @seats(2, "--log", "--outbox", "16")
-@at_both
 def test_a_log(server: Server) -> None:
     """Each start, end and overflow of a session, and each refusal of a connection, has a line."""
     reader = server.connect(small=True)
@@ -187,7 +171,6 @@ def test_a_log(server: Server) -> None:
 
 
 @seats(2, "--slow", "1")
-@at_both
 def test_slow_transactions(server: Server) -> None:
     """A transaction that was open for a second has a line after its end, whether it is committed or its client goes; a shorter one has none."""
     first, second = server.clients(2)
@@ -201,7 +184,6 @@ def test_slow_transactions(server: Server) -> None:
 
 
 @seats(3)
-@at_both
 def test_broken_off_during_a_wait(server: Server) -> None:
     """A client that breaks off while it waits leaves at once, also if it has sent a further request, and its locks are released."""
     older, younger, third = server.clients(3)
@@ -215,7 +197,6 @@ def test_broken_off_during_a_wait(server: Server) -> None:
 
 
 @seats(2)
-@at_both
 def test_half_closed_during_a_wait(server: Server) -> None:
     """A client that half-closes while it waits, after a further request, has not broken off: it gets both replies."""
     older, younger = server.clients(2)
@@ -240,7 +221,6 @@ def held(server: Server) -> Tuple[Any, ...]:
 
 
 @seats(2, "--abort-waits")
-@at_both
 def test_an_abort_ends_a_wait(server: Server) -> None:
     """Only the abort is answered, and it ends one level. The dropped request is not queued any more; the next operation waits as before."""
     older, younger = held(server)
@@ -256,7 +236,6 @@ def test_an_abort_ends_a_wait(server: Server) -> None:
 
 
 @seats(2, "--abort-waits")
-@at_both
 def test_an_abort_in_the_same_piece(server: Server) -> None:
     """In one piece, the abort after the operation ends its wait, and the requests after the abort are answered."""
     older, younger = held(server)
@@ -305,7 +284,6 @@ def test_an_abort_ends_a_one_shot(server: Server) -> None:
 
 
 @seats(2, "--abort-waits")
-@at_both
 def test_an_abort_at_a_commit(server: Server) -> None:
     """An abort comes about when the lock is free: the operation is answered, and the abort after it, or only the abort."""
     chance = random.Random(1)
