@@ -215,7 +215,5 @@ def test_ends_by_itself(tabd: str, serve: Callable[..., Server]) -> None:
     words = [tabd, "serve", "--port", "0", "--connections", "1", "--metrics", pages]
     taken = subprocess.run(words, capture_output=True, text=True, timeout=10, check=False)
     assert (taken.returncode, taken.stdout, taken.stderr) == (1, "", TAKEN), "a port that is taken"
-    connection = server.connect()
-    assert connection.ask("begin") == ("tid", 1)
-    connection.close()
+    script((server.connect(), "begin", ("tid", 1)))
     server.ends()

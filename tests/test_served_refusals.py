@@ -121,7 +121,6 @@ class Case:
             first.close()
             second.close()
             probe(other)
-            other.close()
             server.ends()
             return end
 
@@ -174,7 +173,6 @@ class Watched:
                 self.next_event(first, second)
             first.close()
             probe(second)
-            second.close()
             server.ends()
             return end if made >= nth else "none"
 
@@ -217,7 +215,6 @@ class Joins:
             first.close()
             if self.words:
                 server.seated()[0].close()
-            second.close()
             if not self.words:
                 server.ends()
             return end if made >= nth else "none"

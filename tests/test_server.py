@@ -448,5 +448,4 @@ def test_an_accept_that_fails(serve: Callable[..., Server]) -> None:
     resource.prlimit(server.process.pid, resource.RLIMIT_NOFILE, (3, 3))
     assert server.connect().stream.read() == b"", "the next"
     script((first, write(1, "a"), OK), (first, "commit", ("atomic", 1)))
-    first.close()
     server.ends(1, "tabd: device\ntabd: Too many open files (os error 24)\n")

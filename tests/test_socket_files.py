@@ -80,8 +80,6 @@ def test_requests_and_events(place: Place) -> None:
         follow(second)
         script((first, write(1, "a"), OK), (first, "commit", ("atomic", 1)))
         assert second.event() == event(1, "a", 1), "event"
-        first.close()
-        second.close()
         server.ends()
         assert os.listdir(place.folder) == [], "the folder"
 
@@ -151,13 +149,11 @@ def test_no_socket(place: Place, make: Callable[[pathlib.Path], None]) -> None:
 def test_no_accept(place: Place) -> None:
     """A server that ends since it can't accept removes its file too."""
     with place.server(connections=4) as server:
-        first = Connection(place.path)
-        script((first, CREATE, ATOMIC))
+        script((server.connect(), CREATE, ATOMIC))
         # The accept that waits has its handle already.
         server.accepts()
         resource.prlimit(server.process.pid, resource.RLIMIT_NOFILE, (3, 3))
-        assert Connection(place.path).stream.read() == b"", "the next"
-        first.close()
+        assert server.connect().stream.read() == b"", "the next"
         server.ends(1, DEVICE + "tabd: Too many open files (os error 24)\n")
         assert os.listdir(place.folder) == [], "the folder"
 
@@ -165,12 +161,10 @@ def test_no_accept(place: Place) -> None:
 def test_exchanged(place: Place) -> None:
     """The server does not remove a file that has replaced its own."""
     with place.server() as server, socket.socket(socket.AF_UNIX) as other:
-        connections = server.clients(2)
+        server.clients(2)
         other.bind(place.path + ".other")
         os.rename(place.path + ".other", place.path)
         before = place.file()
-        for connection in connections:
-            connection.close()
         server.ends()
         assert place.file() == before, "the file"
 
@@ -178,10 +172,8 @@ def test_exchanged(place: Place) -> None:
 def test_removed(place: Place) -> None:
     """Nor does it mind that the file is gone."""
     with place.server() as server:
-        connections = server.clients(2)
+        server.clients(2)
         os.unlink(place.path)
-        for connection in connections:
-            connection.close()
         server.ends()
 
 
