@@ -6,7 +6,7 @@ with those of the model of sessions.py.
 
 import pathlib
 import re
-from typing import Iterator, List, Tuple
+from typing import Iterable, Iterator, List, Tuple
 
 from tests.lib.checks import ATOMIC, OK
 from tests.lib.notation import terms_of
@@ -68,10 +68,15 @@ def scripts() -> Iterator[Tuple[str, int, List[Step]]]:
     yield "sessions and tables", 64, LIMITS
 
 
+def of_steps(steps: Iterable[Step]) -> Tuple[bytes, bytes]:
+    """The frames of the requests, and of the replies."""
+    each = list(steps)
+    return frames(*((session, request) for session, request, _ in each)), frames(*((session, reply) for session, _, reply in each))
+
+
 def streams() -> Iterator[Stream]:
     lines = (HERE / "streams.tsv").read_text(encoding="utf-8").splitlines()
     for name, outbox, ended, given, told in (line.split("\t") for line in lines if line and not line.startswith("#")):
         yield Stream(name, int(outbox), bytes_of(given), bytes_of(told), ended)
     for script, capacity, steps in scripts():
-        asked, replies = [(session, request) for session, request, _ in steps], [(session, reply) for session, _, reply in steps]
-        yield Stream(script, capacity, frames(*asked), frames(*replies))
+        yield Stream(script, capacity, *of_steps(steps))
