@@ -10,8 +10,9 @@ an `impl` of that type, in a table's row that names one file in that file, and i
 or of tab_model's or tab_proto's); each `--option` is in the program's help, in that of `rt`, in tests/conftest.py, in the text of a
 script that the same line names, or, on the page of tabd-cli, in its sources. Each file of definitions has a comment, and each crate a
 README.md. The frames of docs/PROTOCOL.md, "Bytes", are sent as printed, and are the encoding of the terms next to them. A line has one
-sentence and at most 160 columns, and a table's cell at most 120 characters, except in tables that a program writes. One line reports each
-fault; the last line is `N passed, M failed`, and the status is 1 if one failed. It takes some seconds.
+sentence and at most 160 columns, and a table's cell at most 120 characters, except in tables that a program writes. `.ci/lengths.py` has the
+lengths of sentences and of documents. One line reports each fault; the last line is `N passed, M failed`, and the status is 1 if one failed.
+It takes some seconds.
 
 No word of the table in CONTRIBUTING.md, "Write", is used more often than .ci/words.tsv allows. `--write` lowers its numbers to the current
 counts, and `--reset` sets them.
@@ -32,6 +33,7 @@ import words  # noqa: E402
 from tests.lib.notation import terms_of  # noqa: E402
 from tests.lib.wire import frame, frames_of, spell, term_of  # noqa: E402
 from words import DOCUMENTS  # noqa: E402
+from lengths import faults as long_parts  # noqa: E402
 
 # Names in documents that the repository doesn't have, with the reason.
 ELSEWHERE = {
@@ -362,8 +364,8 @@ def main() -> None:
                 faults += [f"{path}: {it}" for it in listing_faults(program, listing)]
             faults += [f"{path}: {it}" for it in term_faults(program, document.text)]
             count += sum(len(it.terms) for it in pages)
-    counted, risen = words.faults()
-    faults, count = faults + risen, count + counted
+    for counted, more in (words.faults(), long_parts()):
+        faults, count = faults + more, count + counted
     for fault in faults:
         print(fault)
     print(f"{count - len(faults)} passed, {len(faults)} failed")

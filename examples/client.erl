@@ -1,4 +1,5 @@
 #!/usr/bin/env escript
+%% SPDX-License-Identifier: Apache-2.0
 %% A client of `tabd serve` with Erlang's own framing and terms: escript client.erl PORT
 %% It makes a table, watches it, and writes a person in a transaction and in a one-shot; the last line is `ok`.
 

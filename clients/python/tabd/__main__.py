@@ -1,3 +1,4 @@
+# SPDX-License-Identifier: Apache-2.0
 """`python3 -m tabd`: the operator's programs, which tabd/cli has."""
 
 from __future__ import annotations

@@ -1,3 +1,4 @@
+# SPDX-License-Identifier: Apache-2.0
 """Time for tests of the operator's programs: on a machine that proves meanwhile, a server's first reply may take longer than a client waits."""
 
 from __future__ import annotations

@@ -1,3 +1,4 @@
+# SPDX-License-Identifier: Apache-2.0
 """Servers for the tests: the program itself, and one that plays a script."""
 
 from __future__ import annotations

@@ -1,3 +1,4 @@
+# SPDX-License-Identifier: Apache-2.0
 """A second encoder and decoder of frames and terms, for the scripts of the tests, so that the client's is not compared with itself."""
 
 from __future__ import annotations

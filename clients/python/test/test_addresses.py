@@ -1,3 +1,4 @@
+# SPDX-License-Identifier: Apache-2.0
 """What a client takes as an address, and how it and the others show themselves."""
 
 from __future__ import annotations

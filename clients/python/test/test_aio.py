@@ -1,3 +1,4 @@
+# SPDX-License-Identifier: Apache-2.0
 """The client for asyncio against the program: transactions, cancellation, the pool, events and a mirror."""
 
 from __future__ import annotations

@@ -1,3 +1,4 @@
+# SPDX-License-Identifier: Apache-2.0
 """What repeats a block or a function that lost a lock, against a server that plays a script; decorated functions."""
 
 from __future__ import annotations

@@ -1,3 +1,4 @@
+# SPDX-License-Identifier: Apache-2.0
 """`python3 -m tabd`: the syntax of terms, and the commands against the program."""
 
 from __future__ import annotations

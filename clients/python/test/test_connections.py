@@ -1,3 +1,4 @@
+# SPDX-License-Identifier: Apache-2.0
 """How connections are opened, counted and given up: full and stopped servers, time limits, many descriptors, interrupts."""
 
 from __future__ import annotations

@@ -1,3 +1,4 @@
+# SPDX-License-Identifier: Apache-2.0
 """`tabd-cli dump` and `restore`: with concurrent writers, with files that were cut or changed, and with tables that are hard to write again.
 
 TABD_LONG=1 takes 100 dumps, and measures a million records."""

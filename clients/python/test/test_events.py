@@ -1,3 +1,4 @@
+# SPDX-License-Identifier: Apache-2.0
 """Events and mirrors against the program, which is also killed and started again."""
 
 from __future__ import annotations

@@ -1,3 +1,4 @@
+# SPDX-License-Identifier: Apache-2.0
 """Clients, transactions, events and mirrors that a process has when it is forked."""
 
 from __future__ import annotations

@@ -1,3 +1,4 @@
+# SPDX-License-Identifier: Apache-2.0
 """`tabd-cli keep` with concurrent writers, while the server and the keeper are killed and started again.
 
 Each test kills 5 times, or so often as the variable TABD_KILLS says, and TABD_LONG=1 prints figures: `TABD_LONG=1 TABD_KILLS=50`."""

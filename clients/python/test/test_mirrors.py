@@ -1,3 +1,4 @@
+# SPDX-License-Identifier: Apache-2.0
 """What ends a mirror: an error, `close`, and the end of the last reference to it."""
 
 from __future__ import annotations

@@ -1,3 +1,4 @@
+# SPDX-License-Identifier: Apache-2.0
 """What is published: its metadata, its README and its licence."""
 
 from __future__ import annotations

@@ -1,3 +1,4 @@
+# SPDX-License-Identifier: Apache-2.0
 """What packaging/ has: the completions, the units, and with TABD_LONG=1 the packages, which are also installed in a new Debian by mmdebstrap."""
 
 from __future__ import annotations

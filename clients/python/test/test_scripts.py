@@ -1,3 +1,4 @@
+# SPDX-License-Identifier: Apache-2.0
 """The client against a server that plays a script: what it sends, in which order, and that it sends nothing ahead."""
 
 from __future__ import annotations

@@ -1,3 +1,4 @@
+# SPDX-License-Identifier: Apache-2.0
 """The client against the program: tables, transactions, one-shots and refusals, as docs/PROTOCOL.md has them."""
 
 from __future__ import annotations

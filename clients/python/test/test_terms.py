@@ -1,3 +1,4 @@
+# SPDX-License-Identifier: Apache-2.0
 """Terms as bytes. What is expected stands in docs/PROTOCOL.md, "Bytes" and "Terms"."""
 
 from __future__ import annotations

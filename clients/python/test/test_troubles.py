@@ -1,3 +1,4 @@
+# SPDX-License-Identifier: Apache-2.0
 """`tabd-cli` where something is wrong: no server, one that goes away or says nothing, a full disk, a folder that can't be written, Ctrl-C.
 
 Each command then writes one line on standard error, has status 1, or 130 after Ctrl-C, and loses nothing."""

@@ -1,8 +1,8 @@
-//! Measures what the documents say of the speed of maps and tables.
+//! Measures the documented speed of maps and tables.
 //!
-//! `bench maps ENTRIES` has maps and tables beside the standard map, in the same run: what an insert into it, a write of a key
-//! that is there and a look-up take, of about a million calls of each. `bench check` does each of them once, small, and prints no
-//! time.
+//! `bench maps ENTRIES` compares maps and tables with the standard map, in the same run. It prints the time of an
+//! insert into it, of a write of a key that is there and of a look-up, of about a million calls of each. `bench check`
+//! does each of them once, small, and prints no time.
 
 #![tactic(auto)]
 

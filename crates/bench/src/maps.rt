@@ -1,4 +1,4 @@
-//! Maps and tables beside the standard map: the same calls, in the same run.
+//! Maps and tables compared with the standard map: the same calls, in the same run.
 
 use anyhow::{Result, ensure};
 use std::alloc::{AllocError, Global};
@@ -12,7 +12,7 @@ use tab_model::{Atoms, Change, Kind, Numbers, TableDef};
 use tab_rows::{Form, Update};
 use tab_term::{Atom, Term, Terms};
 
-/// What is measured, and whether it changes in place, or into a new version while the old one stands.
+/// A store to measure, and whether it changes in place, or into a new version while the old one is kept.
 #[derive(Clone, Copy)]
 enum Way {
     Numbers,
@@ -49,7 +49,7 @@ struct Put {
     write: Update,
 }
 
-/// How long a row's calls took over all rounds.
+/// The time of a row's calls over all rounds.
 #[derive(Clone, Copy, Default)]
 struct Times {
     insert: Duration,

@@ -1,4 +1,4 @@
-//! Tests of the public calls of what stands below tables: terms and their bytes, maps, requests, locks.
+//! Tests of the public calls below tables: terms and their bytes, maps, requests, locks.
 
 #![tactic(auto)]
 

@@ -11,7 +11,7 @@ fn scattered(n: u32) -> u32 {
     n.wrapping_mul(0x9e37_79b1)
 }
 
-/// One of 3,000 inserts and removals at 200 keys: made in place, and beside the map that stands for it.
+/// One of 3,000 inserts and removals at 200 keys: in place in `map`, and as a new map from `copy`.
 fn changed(
     alloc: Global,
     map: &mut Map<u32, u32>,
@@ -65,7 +65,7 @@ fn does_as_std(rt: HostRuntime) -> Result<(), Fail> {
     Ok(())
 }
 
-/// A key, and what stands at it in a map of 10, 20, 30 and 40 in tens, each with its number, and of 25.
+/// A key, and its value in a map of 10, 20, 30 and 40 in tens, each with its number, and of 25.
 static HELD: [(u32, Option<u32>); 6] = [
     (5, None),
     (10, Some(1)),
@@ -130,8 +130,8 @@ fn ordered(order: u32, n: u32) -> u32 {
 // Of a thousand entries: rows of 8 entries each, a quarter of the nodes above them for every four, and the root.
 const NODES_OF_A_THOUSAND: usize = 125 * 4 / 3 + 2;
 
-/// Were a way to an entry or a copied node long, this would outlast its time limit many times over. Every second step makes a new map
-/// beside the old one, so it copies what it changes.
+/// If a way to an entry or a copied node were long, this would exceed its time limit many times over. Every second step
+/// makes a new map from the old one, so it copies the nodes that it changes.
 #[test]
 fn steps_of_large_maps_are_short(rt: HostRuntime) -> Result<(), Fail> {
     let alloc = rt.alloc();
@@ -163,7 +163,8 @@ fn rising(alloc: Global, count: u32) -> Result<Map<u32, ()>, AllocError> {
 // Of 29,000 entries whose keys came in order: rows of 28 entries each, with one between two, and nodes of 8 branches.
 const NODES_OF_RISING_KEYS: usize = 1_000 * 8 / 7;
 
-/// Keys that come in order leave rows that are nearly full behind them, and an insert and a removal in turn neither split nor merge.
+/// Keys that come in order leave rows that are nearly full, and an insert and a removal in turn neither split nor
+/// merge.
 #[test]
 fn rising_keys_fill_rows(rt: HostRuntime) -> Result<(), Fail> {
     let alloc = rt.alloc();

@@ -38,8 +38,9 @@ static COMMANDS: [&[u8]; 22] = [
     b"\x83h\x03w\x0btransactionl\x00\x00\x00\x03h\x02w\x05writeh\x02w\x01ta\x01h\x02w\x0btransactionl\x00\x00\x00\x01h\x02w\x05abortw\x02nojh\x03w\x04readw\x01ta\x01jb\x00\x00\x03\xe8",
 ];
 
-/// Payloads of terms that are near to commands: too many restarts, an inner transaction with restarts, a word in a tuple, a
-/// level, an item and an attribute that are none, a key without its table, another word than `dump`, an end with a dump.
+/// Payloads of terms that are near to commands: too many restarts, an inner transaction with restarts, a word in a
+/// tuple, a level that is none. Also an item and an attribute that are none, a key without its table, another word than
+/// `dump`, an end with a dump.
 static NO_COMMANDS: [&[u8]; 9] = [
     b"\x83h\x03w\x0btransactionjb\x00\x00\x03\xe9",
     b"\x83h\x03w\x0btransactionl\x00\x00\x00\x01h\x03w\x0btransactionja\x00ja\x00",
@@ -78,7 +79,7 @@ fn copied(alloc: Global, command: &Command) -> Result<Term, AllocError> {
     }
 }
 
-/// The term of the command that a term is, of an operation's copy where it is one.
+/// The term of the command in a term. For an operation it is that of a copy.
 fn told_again(alloc: Global, held: &Term) -> Option<Term> {
     match command(alloc, held) {
         Ok(command) => copied(alloc, &command).ok(),
@@ -127,7 +128,7 @@ fn item_of(alloc: Global, number: usize) -> Result<Item, Fail> {
     })
 }
 
-/// Whether these frames are added to bytes, and are written to a device.
+/// Returns whether these frames are added to bytes, and are written to a device.
 fn is_sent(alloc: Global, item: &Item, delivery: Delivery, frames: &[u8]) -> Result<bool, Fail> {
     let mut added = Vec::new(alloc);
     append_item(item, delivery, &mut added)?;
@@ -153,7 +154,7 @@ fn items_are_sent(rt: HostRuntime) -> Result<(), Fail> {
     Ok(())
 }
 
-/// Both of a pair of lists are spelled, the second when the first is gone.
+/// Both of a pair of lists are encoded, the second when the first is gone.
 #[test]
 fn replies_are_spelled(rt: HostRuntime) -> Result<(), Fail> {
     let alloc = rt.alloc();
@@ -178,7 +179,7 @@ fn replies_are_spelled(rt: HostRuntime) -> Result<(), Fail> {
     Ok(())
 }
 
-/// What stands before a reply that is added.
+/// The bytes before a reply that is appended.
 const BEFORE: &[u8] = b"before";
 
 /// Lists, and the frames of the replies that hold them: of no elements, of bytes, and of others.
@@ -210,7 +211,8 @@ fn list_in(alloc: Global, payload: &[u8]) -> Result<SharedTerms, Fail> {
     }
 }
 
-/// Whether the frame of a reply is added behind bytes where there is room for it, and nothing where a byte less has room.
+/// Returns whether the frame of a reply is appended to bytes if there is room for it, and nothing if there is room for
+/// a byte less.
 fn is_within(alloc: Global, reply: &Reply, frame: &[u8]) -> Result<bool, Fail> {
     let mut out = Vec::from_slice(alloc, BEFORE)?;
     let shorter = append_reply_within(None, reply, frame.len().saturating_sub(1), &mut out)?;

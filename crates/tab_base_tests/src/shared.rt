@@ -8,7 +8,7 @@ use tab_map::{Map, Set};
 use tab_records::Records;
 use tab_term::{Atom, Term, Terms};
 
-/// How a list is made. Its terms are numbers.
+/// The form of a list. Its terms are numbers.
 enum Form {
     Own(&'static [i128]),
     Entry(i128),
@@ -18,14 +18,14 @@ enum Form {
     Found(At, Wanted),
 }
 
-/// Where records are looked for, as a transaction sees them.
+/// The keys of a query, which searches records as a transaction sees them.
 enum At {
     Key(i128),
     All,
     Keys(&'static [i128]),
 }
 
-/// Which records are found.
+/// The records that a query finds.
 enum Wanted {
     Any,
     Number(i128),
@@ -38,10 +38,10 @@ enum Wanted {
 /// The records, by key, of a map that has the keys from 1 to 99.
 static BEFORE: [(i128, &[i128]); 2] = [(1, &[11, 12]), (3, &[31])];
 
-/// What is inserted when it changes. Key 3 is removed.
+/// The records that are inserted when it changes. Key 3 is removed.
 static CHANGES: [(i128, &[i128]); 2] = [(1, &[19]), (2, &[21, 22])];
 
-/// What a transaction left at the keys that it touched.
+/// The records that a transaction left at the keys that it touched.
 static OWN: [(i128, &[i128]); 3] = [(2, &[25]), (3, &[]), (100, &[71])];
 
 /// Lists with what they give, and what one gives that is made when the map has changed.
@@ -88,7 +88,8 @@ fn numbers(alloc: Global, all: &[i128]) -> Result<Terms, AllocError> {
     Ok(Terms::from_vec(terms))
 }
 
-/// Records of these numbers, one after another. One alone stands by itself. Several share what a lender of the same has.
+/// Records of these numbers, one after another. A single one is stored directly. Several share those of a `lender` of
+/// the same.
 fn records_of(alloc: Global, all: &[i128]) -> Result<Records, AllocError> {
     let lender = records_over(alloc, all, None)?;
     records_over(alloc, all, Some(&lender))
@@ -129,7 +130,7 @@ fn map_before(alloc: Global) -> Result<Map<Term, Records>, AllocError> {
     Ok(map)
 }
 
-/// Key 1 loses its first record and gets one more, in place, before it is inserted anew.
+/// Takes the first record of key 1 away and adds one, in place, before it is inserted again.
 fn revise(alloc: Global, map: &mut Map<Term, Records>) -> Result<(), AllocError> {
     let Some(records) = map.get(&Term::Int(1)) else {
         return Ok(());
@@ -205,7 +206,7 @@ fn list_of(
     }
 }
 
-/// Whether the list gives these numbers, in this order, and no more.
+/// Returns whether the list gives these numbers, in this order, and no more.
 fn gives(list: &SharedTerms, wanted: &[i128]) -> bool {
     let mut terms = list.iter();
     for number in wanted {
@@ -217,15 +218,15 @@ fn gives(list: &SharedTerms, wanted: &[i128]) -> bool {
     terms.next().is_none()
 }
 
-/// Whether the same list gives these once more, and in memory of its own.
+/// Returns whether the same list gives these once more, and in memory of its own.
 fn copy_gives(alloc: Global, list: &SharedTerms, wanted: &[i128]) -> Result<bool, AllocError> {
     let same = list.try_clone(alloc)?;
     let copy = list.to_terms(alloc)?;
     Ok(gives(&same, wanted) && gives(&SharedTerms::from_terms(copy), wanted))
 }
 
-/// Whether a list gives these before the map changes, then and without it, to the second of two who
-/// hold it when the first is gone; and what one gives that is made when it has changed.
+/// Returns whether a list gives `before`: before the map changes, after that, and without the map. The last two are
+/// those of the second of two owners, when the first is gone. A list that is made after the change gives `after`.
 fn is_right(
     alloc: Global,
     form: &Form,

@@ -18,7 +18,7 @@ enum Step {
     Unhold,
 }
 
-/// An age asks for a lock: whether it has it, and how it stands to the others' locks. Then a step of that age.
+/// An age asks for a lock: whether it has it, and how it conflicts with the others' locks. Then a step of that age.
 static STEPS: [(u64, Asked, bool, Conflict, Step); 13] = [
     (
         3,
@@ -132,7 +132,7 @@ fn lock_of(alloc: Global, asked: &Asked) -> Result<Lock, AllocError> {
     })
 }
 
-/// Whether the age has the lock, and how it stands to the others' locks.
+/// Returns whether the age has the lock, and how it conflicts with the others' locks.
 fn standing(locks: &LockTable, age: u64, lock: &Lock) -> (bool, Conflict) {
     (locks.covered(age, lock), locks.conflicts(age, lock))
 }
@@ -170,7 +170,7 @@ enum Call {
     Request(u64, Asked, LockDecision),
     Retry(u64, Retried),
     Forget(u64),
-    /// A lock of this table is held or awaited.
+    /// A lock of this table is granted or awaited.
     Busy(&'static str),
 }
 
@@ -190,7 +190,7 @@ static CALLS: [Call; 13] = [
     Call::Retry(1, Retried::Granted),
 ];
 
-/// No answer where the caller's condition doesn't hold.
+/// False if the caller's condition doesn't hold.
 fn goes(alloc: Global, ages: &mut Ages, call: &Call) -> Result<bool, AllocError> {
     match call {
         Call::Request(age, asked, answer) => {

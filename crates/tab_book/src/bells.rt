@@ -1,10 +1,10 @@
-//! Where sessions sleep until they are woken.
+//! The conditions that sessions sleep on until they are woken.
 
 use std::array;
 use std::sync::Condvar;
 use tab_core::SESSIONS;
 
-/// A condition for each session, by its number. Two sessions may share one: who is woken looks again.
+/// A condition for each session, by its number. Two sessions may share one: a session that is woken looks again.
 #[derive(Drop)]
 pub(crate) struct Bells {
     bells: [Condvar; SESSIONS],
@@ -18,7 +18,7 @@ impl Bells {
         }
     }
 
-    /// Where this session sleeps.
+    /// The condition that this session sleeps on.
     pub fn of(&self, session: u32) -> &Condvar {
         &self.bells[session as usize % SESSIONS]
     }

@@ -88,7 +88,7 @@ impl<H: Host> Book<H> {
         self.core.tables()
     }
 
-    /// The entries that stand, and the base that they start from.
+    /// The entries that are not folded yet, and the base that they start from.
     pub fn journal(&self) -> &Journal
         ensures journal { result.now ≡ self.now.journal }
         ensures running { IsRunning self.now }
@@ -96,7 +96,7 @@ impl<H: Host> Book<H> {
         &self.journal
     }
 
-    /// How many sessions watch the table.
+    /// The number of sessions that watch the table.
     pub fn watchers(&self, table: &Atom) -> usize
         ensures { result
             ≡ count_by (λ s. is_some (level_in s.watching table.now)) self.now.state.sessions }
@@ -143,7 +143,7 @@ impl<H: Host> Book<H> {
         }
     }
 
-    /// How many items a mailbox has room for.
+    /// The number of items that a mailbox has room for.
     pub(crate) fn outbox(&self) -> usize
         ensures { 1 ≤ result }
     {
@@ -152,12 +152,12 @@ impl<H: Host> Book<H> {
         self.outbox
     }
 
-    /// How the session's rest stands.
+    /// The back-off state of the session.
     pub(crate) fn rest(&self, session: u32) -> Rest {
         self.core.rest(session)
     }
 
-    /// The sessions that wait and would be granted their lock now, or rest and may go on.
+    /// The sessions that wait and would be granted their lock now, and those whose back-off may end.
     pub(crate) fn ready(&self) -> ArrayVec<u32, SESSIONS>
         ensures { AreReady self.now.state result.items }
     {

@@ -11,23 +11,23 @@ use std::sync::MutexGuard;
 use tab_core::Rest;
 use tab_post::Host;
 
-/// So many steps are made under one hold.
+/// The most steps under one hold.
 const STEPS: usize = 1_000;
 
-/// A session's hold of a shared book, from a step on until it is given back. Steps under one hold stand together: no other
-/// session's step is between them. It gives itself back after a thousand steps, so that others are not kept long.
+/// A session's hold of a shared book, from a step until `give_back`. Steps under one hold are adjacent: no other
+/// session's step is between them. It releases itself after a thousand steps, so that others are not kept long.
 #[derive(Drop)]
 pub struct Held<'a, H: Host> {
     host: &'a H,
     shared: &'a Shared<H>,
     book: Option<MutexGuard<'a, Book<H>>>,
     steps: usize,
-    /// Whether one of the steps may let another session go on.
+    /// True if one of the steps may let another session go on.
     releases: bool,
 }
 
 impl<'a, H: Host> Held<'a, H> {
-    /// Nothing is held yet.
+    /// A hold that has not locked the book yet.
     pub fn new(host: &'a H, shared: &'a Shared<H>) -> Held<'a, H> {
         Held {
             host,
@@ -38,7 +38,7 @@ impl<'a, H: Host> Held<'a, H> {
         }
     }
 
-    /// A step of the session; the book stays held.
+    /// Makes a step of the session; the book stays locked.
     pub fn step(&mut self, seat: &Seat, step: Step) -> Result<Answered, AllocError>
         ensures { IsTrue (is_never_refused step) → IsOk result }
     {
@@ -57,7 +57,7 @@ impl<'a, H: Host> Held<'a, H> {
         Ok(answered)
     }
 
-    /// How the session's rest stands.
+    /// The back-off state of the session.
     pub fn rest(&self, seat: &Seat) -> Rest {
         match &self.book {
             Some(book) => book.rest(seat.session()),
@@ -65,7 +65,7 @@ impl<'a, H: Host> Held<'a, H> {
         }
     }
 
-    /// The book is held no more, and those are woken that may go on since.
+    /// Unlocks the book, and wakes the sessions that may go on since.
     pub fn give_back(&mut self) {
         self.steps = 0;
         let releases = self.releases;

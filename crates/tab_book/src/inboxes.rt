@@ -13,7 +13,8 @@ use tab_outbox::Met;
 use tab_post::{Host, Inbox};
 
 impl<H: Host> Book<H> {
-    /// Takes one item more at the session's inbox, or shows that all is taken, with an overflow that was not told yet.
+    /// Takes one item more at the session's inbox, or shows that all is taken, with an overflow that was not reported
+    /// yet.
     pub fn drained(&mut self, session: u32, inbox: &mut Inbox<H>) -> Drained
         ensures drained { Drains self.old session (mailbox_of inbox.old) (received inbox.old) result
             (received inbox.new) self.new }
@@ -41,7 +42,7 @@ impl<H: Host> Book<H> {
         }
     }
 
-    /// Of a joined session of which all is taken: the overflow that it was not told yet.
+    /// The overflow that was not reported yet, of a joined session of which all is taken.
     fn told_overflow(&mut self, session: u32) -> Drained
         requires { (s : Session) × (session_at self.old.state.sessions session ≡ Some s) }
         ensures told { (s : Session) × (session_at self.old.state.sessions session ≡ Some s)

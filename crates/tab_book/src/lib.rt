@@ -1,10 +1,12 @@
 //! The running book: a core over mailboxes and its journal, under one lock, for many threads.
 //!
-//! Whenever the book is got, its journal replays from its base to its tables, each open transaction was told what it is told
-//! alone on them, and each joined session was sent what the journal owes it (`IsRunning`).
+//! In every state of the book (`IsRunning`): its journal replays from its base to its tables. The replies of each open
+//! transaction are those of running it by itself on them. Each joined session was sent the items that the journal gives
+//! it.
 
 #![tactic(auto)]
 
+mod activity;
 mod bells;
 mod book;
 mod held;
@@ -13,6 +15,7 @@ mod shared;
 mod step;
 mod steps;
 
+pub use activity::{Activity, Doing};
 pub use book::Book;
 pub use held::Held;
 pub use shared::{Seat, Shared};

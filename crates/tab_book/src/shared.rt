@@ -45,17 +45,17 @@ impl Seat {
     }
 }
 
-/// So often the lock is tried before it is waited for. Who waits for it has to be woken, and each release is a switch of
-/// threads then; but who tries for long keeps a processor from others, and leaves the turn to luck.
+/// The number of tries before a thread waits for the lock. A thread that waits has to be woken, and then each release
+/// is a switch of threads. But a thread that tries for long keeps a processor from others, and leaves the turn to luck.
 const TRIES: u32 = 512;
 
-/// So many milliseconds who rests, or begins to wait, sleeps at a time if it is not woken; and so many who waits on.
+/// The milliseconds of a sleep, if it is not woken: `NAP` in a back-off or at the begin of a wait, `SLEEP` after that.
 const NAP: u64 = 20;
 
 const SLEEP: u64 = 1_000;
 
-/// A book under a lock, and where its sessions sleep. Who locks it and makes steps gives it back by `let_go`, so that those are
-/// woken that may go on; the calls here do.
+/// A book under a lock, and the conditions that its sessions sleep on. A caller that locks it and makes steps returns
+/// it by `let_go`, which wakes the sessions that may go on; the calls here do.
 #[derive(Drop)]
 pub struct Shared<H: Host> {
     pub book: Mutex<Book<H>>,
@@ -66,7 +66,7 @@ pub struct Shared<H: Host> {
 }
 
 impl<H: Host> Shared<H> {
-    /// The book behind its lock, with a bell for each session. It takes no memory.
+    /// The book in its lock, with a bell for each session. It takes no memory.
     pub fn new(book: Book<H>) -> Shared<H> {
         let alloc = book.alloc;
         let outbox = book.outbox();
@@ -78,12 +78,12 @@ impl<H: Host> Shared<H> {
         }
     }
 
-    /// So many items a session's mailbox holds at most.
+    /// The most items of a session's mailbox.
     pub fn outbox(&self) -> usize {
         self.outbox
     }
 
-    /// The book, alone. It looks for a while before it sleeps.
+    /// Locks the book. It tries for a while before it sleeps.
     pub fn hold(&self, host: &H) -> MutexGuard<'_, Book<H>> {
         for _ in 0..TRIES {
             if let Some(book) = self.book.try_lock() {
@@ -94,7 +94,7 @@ impl<H: Host> Shared<H> {
         self.book.lock(host)
     }
 
-    /// The book is held no more. Where a step released something, those are woken that may go on since.
+    /// Unlocks the book. If a step released something, it wakes the sessions that may go on since.
     pub fn let_go(&self, book: MutexGuard<'_, Book<H>>, releases: bool) {
         if !releases {
             return;
@@ -104,8 +104,8 @@ impl<H: Host> Shared<H> {
         self.bells.ring(&ready);
     }
 
-    /// A session joins, with a mailbox of its own, whose receiving end is given out. The mailbox is made before the book is
-    /// held, since it has room for all that it may hold.
+    /// Joins a session, with a mailbox of its own, whose receiving end it returns. The mailbox is created before the
+    /// book is locked, since it has room for its capacity.
     pub fn join(&self, host: &H) -> Result<(Seat, Inbox<H>), JoinFault>
         ensures number { IfOk result (λ r. 1 ≤ r.0) }
         ensures inbox { IfOk result (λ r. received r.1 ≡ []) }
@@ -117,8 +117,8 @@ impl<H: Host> Shared<H> {
         Ok((Seat { session }, inbox))
     }
 
-    /// A command of the session. Where it has to wait for a lock it waits, and asks again after each release, until it is
-    /// told otherwise. Where memory is refused while it asks again, the request stays queued, and an abort ends it.
+    /// Makes a command of the session. If it has to wait for a lock, it waits and asks again after each release, until
+    /// it has another reply. If memory is refused while it asks again, the request stays queued, and an abort ends it.
     pub fn call(&self, host: &H, seat: &Seat, command: Command) -> Result<SharedReply, AllocError> {
         let told = self.step(host, seat, command)?;
         if matches!(told.reply(), Reply::Waiting) {
@@ -127,7 +127,7 @@ impl<H: Host> Shared<H> {
         Ok(told)
     }
 
-    /// A command of the session, once: it is told `Waiting` where it has to wait for a lock.
+    /// Makes a command of the session, once: the reply is `Waiting` if it has to wait for a lock.
     pub fn step(&self, host: &H, seat: &Seat, command: Command) -> Result<SharedReply, AllocError>
         ensures { IsTrue (is_abort command) → IsOk result }
     {
@@ -135,7 +135,7 @@ impl<H: Host> Shared<H> {
         Ok(answered.told)
     }
 
-    /// Asks for the lock that the session waits for, after each release once more, until it is told otherwise.
+    /// Asks for the lock that the session waits for, after each release once more, until it has another reply.
     pub fn retry(&self, host: &H, seat: &Seat) -> Result<SharedReply, AllocError>
         ensures { IfOk result (λ r. r ≢ reply.Waiting) }
     {
@@ -147,8 +147,8 @@ impl<H: Host> Shared<H> {
         unreachable!()
     }
 
-    /// Asks for the lock that the session waits for, after each release once more, until it is told otherwise. None once the
-    /// wait is over, of which `wake` tells.
+    /// Asks for the lock that the session waits for, after each release once more, until it has another reply. None
+    /// once `over` is set: `wake` makes the session look.
     pub fn retry_until(
         &self,
         host: &H,
@@ -177,8 +177,8 @@ impl<H: Host> Shared<H> {
         self.bells.of(seat.session).notify_all();
     }
 
-    /// Asks for the lock that the session waits for, and once more where it is woken or has slept for a nap, so many naps
-    /// long. None where it still has to wait.
+    /// Asks for the lock that the session waits for, at most `naps` times. After each it sleeps for `NAP` milliseconds,
+    /// or until it is woken. None if it still has to wait.
     pub fn retry_for(
         &self,
         host: &H,
@@ -195,8 +195,8 @@ impl<H: Host> Shared<H> {
         Ok(None)
     }
 
-    /// Asks for the lock that the session waits for. Where it still has to wait, it sleeps until it is woken, at most so
-    /// many milliseconds.
+    /// Asks for the lock that the session waits for. If it still has to wait, it sleeps until it is woken, for
+    /// `at_most` milliseconds.
     fn retry_once(
         &self,
         host: &H,
@@ -215,9 +215,9 @@ impl<H: Host> Shared<H> {
         Ok(None)
     }
 
-    /// Who was restarted rests until its lock is free and it is the oldest that rests for it, so many naps long. It makes
-    /// way for an older one for one nap in which the lock was free, and no longer: that one may have gone to sleep.
-    /// False where it had better rest on.
+    /// Backs off after a restart until the session's lock is free and it is the oldest that backs off for it, for at
+    /// most `naps` sleeps. It makes way for an older one for one sleep in which the lock was free, and no longer: that
+    /// one may have gone to sleep. False if it should back off longer.
     pub fn rest(&self, host: &H, seat: &Seat, naps: u32) -> bool {
         let bell = self.bells.of(seat.session);
         let mut behind = false;
@@ -254,7 +254,7 @@ impl<H: Host> Shared<H> {
         }
     }
 
-    /// Whether the journal replays from its base to the tables. The lock is held while it is run.
+    /// Returns whether the journal replays from its base to the tables. The book is locked meanwhile.
     pub fn audit(&self, host: &H) -> Result<bool, AllocError> {
         self.hold(host).audit()
     }

@@ -21,14 +21,14 @@ use tab_journal::Journal;
 use tab_model::{Command, Entry, Reply, SharedReply};
 use tab_post::Host;
 
-/// How many levels a session has open, and how many transactions were committed.
+/// The number of a session's open levels, and of the commits.
 #[derive(Clone, Copy)]
 struct Standing {
     levels: u64,
     commits: u64,
 }
 
-/// What a session holds others up by: a transaction that is open, and a request that is queued.
+/// The ways in which a session holds others up: an open transaction, and a queued request.
 #[derive(Clone, Copy)]
 struct Holdup {
     open: bool,
@@ -36,9 +36,9 @@ struct Holdup {
 }
 
 impl<H: Host> Book<H> {
-    /// One step of a session, with its entry put into the journal. Where the journal is full and the step may give an entry
-    /// the oldest are folded into the base first, until there is room for it, which takes memory; where that is refused, or
-    /// the step's, nothing else changed.
+    /// Makes one step of a session, with its entry put into the journal. If the journal is full and the step may give
+    /// an entry, the oldest are folded into the base first, until there is room for it, which takes memory. If that is
+    /// refused, or the step's, nothing else changed.
     pub fn step(&mut self, session: u32, step: Step) -> Result<Answered, AllocError>
         ensures done { IfOk result (λ r. StepsTo self.old session (ask_of step) r.told self.new) }
         ensures free { IsTrue (takes_no_memory self.old.state session (ask_of step))
@@ -102,7 +102,7 @@ impl<H: Host> Book<H> {
         }
     }
 
-    /// What became of the session's transaction in a step, before which it stood so.
+    /// The transition of the session's transaction in a step, from its state before.
     fn transition(&self, session: u32, before: Standing, leaves: bool, reply: &Reply) -> Transition
         ensures { result
             ≡ record {
@@ -145,7 +145,7 @@ impl<H: Host> Book<H> {
         Ok(())
     }
 
-    /// None where no one waits or rests, so that nothing that is let go of matters to others.
+    /// None if no session waits or backs off, so that a release matters to no other.
     fn holdup(&self, session: u32) -> Option<Holdup>
         ensures { MatchOption result (self.now.state.queue ≡ [])
             (λ s. (s.open ≡ is_some (transaction_at self.now.state session))
@@ -166,8 +166,8 @@ impl<H: Host> Book<H> {
         self.core.levels(session) > 0
     }
 
-    /// Whether a step after which the session was told so may let others go on: its transaction ended or was restarted, or
-    /// its queued request was dropped. A retry that is answered holds the lock from then on, so it makes way for no one.
+    /// Returns whether a step with this reply may let others go on: its transaction ended or was restarted, or its
+    /// queued request was dropped. A retry that is answered holds the lock from then on, so it makes way for no one.
     fn lets_go(&self, session: u32, before: Option<Holdup>, retries: bool, reply: &Reply) -> bool
         ensures ended { IfSome before
             (λ b. IsTrue b.open → IsFalse (is_some (transaction_at self.now.state session))
@@ -217,7 +217,7 @@ impl<H: Host> Book<H> {
             .fold_oldest(self.alloc, joined, self.core.tables())
     }
 
-    /// Of the oldest entry, where it is a subscription, whether its session is still joined.
+    /// Returns whether the oldest entry is a subscription whose session is still joined.
     fn oldest_joined(&self) -> bool
         ensures { result ≡ oldest_joined_of self.now.state self.now.journal.entries }
     {
@@ -227,7 +227,7 @@ impl<H: Host> Book<H> {
         }
     }
 
-    /// Whether a joined session leaves.
+    /// Returns whether a joined session leaves.
     fn leaves(&self, session: u32, step: &Step) -> bool
         ensures { result ≡ leaves_of self.now.state session (ask_of step.now) }
     {
@@ -237,7 +237,8 @@ impl<H: Host> Book<H> {
         }
     }
 
-    /// Whether the step may give an entry: a commit of level 1, a schema command, a begin or an end of a subscription.
+    /// Returns whether the step may give an entry: a commit of level 1, a schema command, a begin or an end of a
+    /// subscription.
     fn may_enter(&self, session: u32, step: &Step) -> bool
         ensures { result ≡ may_enter_of self.now.state session (ask_of step.now) }
     {

@@ -52,7 +52,7 @@ pub fn subscribe(alloc: Global) -> Result<Command, AllocError> {
     Ok(Command::Subscribe(name(alloc)?, Level::Simple, false))
 }
 
-/// The number of the commit, 0 where there is none.
+/// The number of the commit, 0 if there is none.
 pub fn number_of(reply: &Reply) -> u64 {
     match reply {
         Reply::Atomic(number) => *number,

@@ -23,7 +23,7 @@ const THREADS: usize = 4;
 
 const EACH: usize = 50;
 
-/// What a thread was told of a transaction: its age, the number of its commit, and the value that it read last.
+/// A thread's results of a transaction: its age, the number of its commit, and the value that it read last.
 #[derive(Clone, Copy)]
 struct Raised {
     age: u64,
@@ -31,7 +31,7 @@ struct Raised {
     value: i128,
 }
 
-/// A step, and where it has to wait the retries behind it.
+/// A step, and if it has to wait the retries after it.
 fn answered<H: Host>(
     host: &H,
     shared: &Shared<H>,
@@ -45,7 +45,7 @@ fn answered<H: Host>(
     }
 }
 
-/// The value that is read for a write; None where the transaction is restarted.
+/// The value that is read for a write; None if the transaction is restarted.
 fn value_read<H: Host>(
     host: &H,
     alloc: Global,
@@ -63,7 +63,7 @@ fn is_done(reply: &Reply) -> bool {
     }
 }
 
-/// One attempt to raise the record: the value that was read; None where it is to be made again.
+/// One attempt to raise the record. Returns the value that was read; None if it has to be repeated.
 fn attempt<H: Host>(
     host: &H,
     alloc: Global,
@@ -81,7 +81,7 @@ fn attempt<H: Host>(
     })
 }
 
-/// The age that a begin gave, 0 where it gave none.
+/// The age that a begin gave, 0 if it gave none.
 fn age_of(reply: &Reply) -> u64 {
     match reply {
         Reply::Tid(age) => *age,
@@ -107,12 +107,12 @@ fn raise<H: Host>(
     unreachable!()
 }
 
-/// Whether it read what the commits before had left.
+/// Returns whether it read the value that the commits before wrote.
 fn is_next(raised: Raised) -> bool {
     raised.value.saturating_add(2) == raised.commit as i128
 }
 
-/// Whether it is this transaction of this session, which read in it what the commits before had left.
+/// Returns whether it is this transaction of this session, which read the value that the commits before wrote.
 fn is_commit(entry: &Entry, session: u32, raised: Raised) -> bool {
     match entry {
         Entry::Committed {
@@ -135,7 +135,7 @@ fn is_commit(entry: &Entry, session: u32, raised: Raised) -> bool {
     }
 }
 
-/// Whether the journal has such an entry, or has folded its commit away since.
+/// Returns whether the journal has such an entry, or has folded its commit away since.
 fn is_entered<H: Host>(host: &H, shared: &Shared<H>, seat: &Seat, raised: Raised) -> bool {
     let book = shared.book.lock(host);
     let journal = book.journal();
@@ -165,7 +165,7 @@ fn raise_all<H: Host>(
     }
 }
 
-/// A thread for each seat. Counts the commits that their threads found entered.
+/// Starts a thread for each session. Counts the commits that their threads found entered.
 fn run_threads<H: Host + Threads + Send + Sync>(
     host: &H,
     alloc: Global,
@@ -183,7 +183,7 @@ fn run_threads<H: Host + Threads + Send + Sync>(
     });
 }
 
-/// What stands in the end.
+/// The result in the end.
 #[derive(Clone, Copy, PartialEq, Eq)]
 struct Counts {
     entries: usize,
@@ -195,11 +195,11 @@ struct Counts {
     audit: bool,
     /// Against tables in which the record has one less.
     other_audit: bool,
-    /// How many of the threads' answers were found in the journal, or folded before they were looked for: not so the last 16.
+    /// The number of the threads' commits that were in the journal, or folded before the look: not so the last 16.
     entered: u64,
 }
 
-/// The number of the last entry's commit, 0 where it is none.
+/// The number of the last entry's commit, 0 if it is none.
 fn last_number(journal: &Journal) -> u64 {
     match journal.entry(journal.len().saturating_sub(1)) {
         Some(Entry::Committed { number, .. }) => *number,
@@ -277,7 +277,7 @@ fn begin_at_0<H: Host>(
     Ok(())
 }
 
-/// Whether the journal ends in tables in which the record has 199.
+/// Returns whether the journal ends in tables in which the record has 199.
 fn is_history_of_199(
     alloc: Global,
     journal: &Journal,

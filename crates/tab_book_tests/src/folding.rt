@@ -21,7 +21,7 @@ fn commit<H: Host>(book: &mut Book<H>, alloc: Global, session: u32) -> Result<u6
     Ok(number_of(answered.told.reply()))
 }
 
-/// Whether the base has the table, without a record or with one, and this commit.
+/// Returns whether the base has the table, without a record or with one, and this commit.
 fn is_base(alloc: Global, base: &Base, commits: u64, records: usize) -> Result<bool, AllocError> {
     let found = match base.tables().table(&name(alloc)?) {
         Some(table) => match table.entry(&Term::Int(1)) {
@@ -33,7 +33,7 @@ fn is_base(alloc: Global, base: &Base, commits: u64, records: usize) -> Result<b
     Ok(base.commits() == commits && found == Some(records))
 }
 
-/// Whether the oldest entry is the table's.
+/// Returns whether the oldest entry is the table's.
 fn is_table(journal: &Journal) -> bool {
     match journal.entry(0) {
         Some(Entry::Changed(..)) => true,
@@ -41,7 +41,7 @@ fn is_table(journal: &Journal) -> bool {
     }
 }
 
-/// Whether the entry at this place is the commit with this number.
+/// Returns whether the entry at this place is the commit with this number.
 fn is_commit(journal: &Journal, place: usize, commit: u64) -> bool {
     match journal.entry(place) {
         Some(Entry::Committed { number, .. }) => *number == commit,
@@ -49,7 +49,7 @@ fn is_commit(journal: &Journal, place: usize, commit: u64) -> bool {
     }
 }
 
-/// Whether the entries from this place on are the commits from this one on, in turn, and no more.
+/// Returns whether the entries from this place on are the commits from this one on, in turn, and no more.
 fn are_commits(journal: &Journal, first: usize, from: u64, count: usize) -> bool {
     let mut right = journal.len() == first.saturating_add(count);
     for (place, commit) in (first..journal.len()).zip(from..) {
@@ -58,7 +58,8 @@ fn are_commits(journal: &Journal, first: usize, from: u64, count: usize) -> bool
     right
 }
 
-/// Whether the entries end with this commit: behind the table's those from the first on, until that is folded, and then 16.
+/// Returns whether the entries end with this commit: after the table's those from the first on, until that is folded,
+/// and then 16.
 fn is_right(alloc: Global, journal: &Journal, number: u64) -> Result<bool, AllocError> {
     if number < 16 {
         return Ok(is_table(journal) && are_commits(journal, 1, 1, number as usize));
@@ -68,7 +69,7 @@ fn is_right(alloc: Global, journal: &Journal, number: u64) -> Result<bool, Alloc
     Ok(based && are_commits(journal, 0, folded + 1, 16))
 }
 
-/// The first commit behind which the journal differs, or is no history of the tables.
+/// The first commit after which the journal differs, or is no history of the tables.
 fn fold<H: Host>(host: H, alloc: Global, opened: Opened<Channel>) -> Result<Option<u64>, Fail>
     requires { opened ≡ H.book }
 {

@@ -15,7 +15,7 @@ use tab_post::{Channel, ChannelPost, Host, Inbox, Naming, NewMailbox, Opened};
 /// Items are batches without events, known by their commits.
 enum Call {
     Put(u64),
-    /// It is handed back, since the mailbox is full.
+    /// It is returned, since the mailbox is full.
     Full(u64),
     /// Nothing is taken at this end.
     Pull,
@@ -38,7 +38,7 @@ static CALLS: [(usize, usize, Call); 31] = [
     (1, 1, Call::Refusals(0)),
     (1, 1, Call::Put(4)),
     (0, 0, Call::Pull),
-    // What waits in the one mailbox or the other makes no difference.
+    // The items in the one mailbox or the other make no difference.
     (0, 1, Call::Apart),
     (1, 0, Call::Apart),
     (0, 0, Call::Going(1)),
@@ -50,7 +50,7 @@ static CALLS: [(usize, usize, Call); 31] = [
     (1, 1, Call::Put(5)),
     (1, 0, Call::Apart),
     (1, 1, Call::Receive(5)),
-    // Both items are taken by meetings, and the mailbox goes on behind them.
+    // Both items are taken by meetings, and the mailbox goes on after them.
     (0, 0, Call::Put(6)),
     (0, 0, Call::Put(7)),
     (0, 0, Call::Full(8)),
@@ -84,7 +84,7 @@ fn received<H: Host>(inbox: &mut Inbox<H>) -> u64 {
     }
 }
 
-/// The item that is handed back since the mailbox is full, or since nobody takes any more; None where it is put.
+/// The item that is returned since the mailbox is full, or since nobody takes any more; None if it is put.
 fn put<H: Host>(post: &mut ChannelPost<H>, item: SharedItem) -> Option<(bool, SharedItem)> {
     match post.put(item) {
         Ok(()) => None,
@@ -115,7 +115,7 @@ fn is_handed_back<H: Host>(
     }
 }
 
-/// What the two ends find: the item that was taken, or as many more than NONE as there are.
+/// The result of a meeting: the item that was taken, or a number over NONE.
 fn met<H: Host>(post: &mut ChannelPost<H>, inbox: &mut Inbox<H>) -> u64 {
     match post.meet(inbox) {
         Met::Going(item) => number_of(item.item()),

@@ -1,4 +1,4 @@
-//! A mailbox of two items that overflows twice, with a subscription behind each, and is told of each once.
+//! A mailbox of two items that overflows twice, with a subscription after each, and reports each once.
 
 ghost use Rattle.std.specs.Prelude.{◌≡◌};
 
@@ -12,7 +12,7 @@ use tab_lists::EventTerms;
 use tab_model::{Command, Item, Reply};
 use tab_post::{Channel, Host, Inbox, Naming, Opened};
 
-/// What is shown at an inbox, as a number: a batch of one event is 100 and its commit, an overflow 200 and its commit.
+/// An inbox's next item as a number: a batch of one event is 100 and its commit, an overflow 200 and its commit.
 fn shown_as(drained: &Drained) -> u64 {
     match drained {
         Drained::Going(item) => number_in(item.item()),
@@ -40,7 +40,7 @@ pub const BEGAN: u64 = 2;
 
 const LEFT: u64 = 3;
 
-/// The numbers of three commits, which begin behind a begin marker that is taken, and what the reader is shown then, in turn.
+/// The numbers of three commits, which begin after a begin marker that is taken, and the reader's items then, in turn.
 static ROUNDS: [([u64; 3], [u64; 4]); 2] = [
     ([1, 2, 3], [101, 102, 203, ALL_TAKEN]),
     ([4, 5, 6], [104, 105, 206, ALL_TAKEN]),
@@ -72,12 +72,12 @@ fn commit<H: Host>(
     Ok(number_of(told.reply()))
 }
 
-/// What the reader is shown by a Take, as a number.
+/// The reader's next item, as a number.
 pub fn shown<H: Host>(host: &H, shared: &Shared<H>, seat: &Seat, inbox: &mut Inbox<H>) -> u64 {
     shown_as(&shared.drained(host, seat, inbox))
 }
 
-/// Whether the reader subscribes, and is shown its begin marker.
+/// Returns whether the reader subscribes, and is shown its begin marker.
 fn watches<H: Host>(
     host: &H,
     alloc: Global,
@@ -89,7 +89,7 @@ fn watches<H: Host>(
     Ok(is_here(told.reply()) && shown(host, shared, seat, inbox) == BEGAN)
 }
 
-/// Whether the commits have these numbers.
+/// Returns whether the commits have these numbers.
 fn commits<H: Host>(
     host: &H,
     alloc: Global,
@@ -104,7 +104,7 @@ fn commits<H: Host>(
     Ok(right)
 }
 
-/// Whether the reader, which overflowed, is refused a subscription until it was shown all of these.
+/// Returns whether the reader, which overflowed, is refused a subscription until it was shown all of these.
 fn is_told<H: Host>(
     host: &H,
     alloc: Global,

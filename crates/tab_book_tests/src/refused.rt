@@ -1,5 +1,6 @@
-//! Joins, steps, folds and an audit for which memory is refused are made again: one refusal, wherever it comes, changes nothing
-//! that is told. `rt try --test --fail-alloc N -- refused` refuses the Nth allocation; without a refusal it is one more happy path.
+//! Joins, steps, folds and an audit are repeated if memory is refused for them: one refusal, at whatever call, changes
+//! no reply. `rt try --test --fail-alloc N -- refused` refuses the Nth allocation; without a refusal it is one more
+//! happy path.
 
 ghost use Rattle.std.specs.Prelude.{◌≡◌};
 
@@ -13,7 +14,7 @@ use tab_book::{Book, JoinFault, Seat, Shared};
 use tab_model::{Command, Limits, Reply};
 use tab_post::{Channel, Host, Inbox, Naming, Opened};
 
-/// Who asks, and what.
+/// The commands of the writer and of the watcher.
 #[derive(Clone, Copy)]
 enum Ask {
     Create,
@@ -26,7 +27,7 @@ enum Ask {
 /// A journal of two entries folds at each entry from the third on.
 const ENTRIES: usize = 2;
 
-/// What is asked in turn, and what it is told.
+/// The commands in turn, each with its reply.
 static STEPS: [(Ask, u64); 11] = [
     (Ask::Create, DEFINED),
     (Ask::Watch, WATCHED),
@@ -47,7 +48,7 @@ const DEFINED: u64 = 2;
 
 const WATCHED: u64 = 3;
 
-/// What the watcher, whose mailbox holds three items, is shown behind them.
+/// The watcher's items after them; its mailbox holds three.
 static SHOWN: [u64; 5] = [BEGAN, 101, 102, 203, ALL_TAKEN];
 
 fn command(alloc: Global, ask: Ask) -> Result<Command, AllocError> {
@@ -79,7 +80,7 @@ fn join<H: Host>(host: &H, shared: &Shared<H>) -> Result<(Seat, Inbox<H>), JoinF
     }
 }
 
-/// What the step is told, which is made again where it finds no memory: one allocation alone is refused.
+/// The reply of the step, which is repeated if it finds no memory: only one allocation is refused.
 fn told<H: Host>(
     host: &H,
     alloc: Global,
@@ -98,7 +99,8 @@ fn told<H: Host>(
     None
 }
 
-/// Whether the journal has its two last entries behind a base of the commits before, and is a history of the tables.
+/// Returns whether the journal has its two last entries after a base of the commits before, and is a history of the
+/// tables.
 fn is_history<H: Host>(host: &H, shared: &Shared<H>) -> Result<bool, AllocError> {
     let audit = match shared.audit(host) {
         Err(_) => shared.audit(host)?,
@@ -109,7 +111,8 @@ fn is_history<H: Host>(host: &H, shared: &Shared<H>) -> Result<bool, AllocError>
     Ok(audit && journal.len() == ENTRIES && journal.base().commits() == 1)
 }
 
-/// The first step that was told another thing, or of those that the watcher is shown, behind them; None where all is right.
+/// The first step whose reply differs, or of the watcher's items the first that differs, numbered after the steps; None
+/// if all is right.
 fn differs<H: Host>(host: H, alloc: Global, opened: Opened<Channel>) -> Result<Option<usize>, Fail>
     requires { opened ≡ H.book }
 {

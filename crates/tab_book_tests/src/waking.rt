@@ -1,4 +1,5 @@
-//! Who waits behind a request that goes with its level: the step that drops it says so, and so wakes who waits.
+//! A session that waits for a request that goes with its level: the step that drops the request reports it, and so
+//! wakes the session.
 
 ghost use Rattle.std.specs.Prelude.{◌≡◌};
 
@@ -12,7 +13,7 @@ use tab_model::{Command, Reply};
 use tab_post::{Channel, Host, Naming, Opened};
 use tab_term::Term;
 
-/// What a session asks.
+/// A command of a session.
 #[derive(Clone, Copy)]
 enum Ask {
     Begin,
@@ -22,7 +23,7 @@ enum Ask {
     Retry,
 }
 
-/// What a step comes to.
+/// The result of a step.
 #[derive(Clone, Copy, PartialEq, Eq)]
 enum Then {
     Answered,
@@ -31,8 +32,8 @@ enum Then {
     Releases,
 }
 
-/// Each step with its session, by age, and what it comes to. The second writes in a child what the third has read; the first
-/// waits behind the second alone.
+/// Each step with its session, by age, and its result. The second writes in a child the record that the third has read;
+/// the first waits only for the second.
 static STEPS: [(usize, Ask, Then); 10] = [
     (0, Ask::Begin, Then::Answered),
     (1, Ask::Begin, Then::Answered),

@@ -1,4 +1,4 @@
-//! Outermost commits and schema commands, with what they owe to who watches.
+//! Outermost commits and schema commands, with their items for the subscribers.
 
 ghost use Rattle.std.specs.Prelude.{◌≡◌, ◌+◌, ◌∷◌, ◌++◌, [], None, IfOk, IsOk, OnOk, OnErr, IsTrue};
 ghost use Rattle.std.specs.List.{filter};
@@ -68,7 +68,7 @@ impl<P: Post + Drop> Core<P> {
         deliver_commit(&mut self.machine, session, updated)
     }
 
-    /// What the session itself refuses is looked for before any memory is taken.
+    /// Makes a schema command. It looks for a refusal of the session itself before it takes any memory.
     pub(crate) fn schema(&mut self, session: u32, schema: Schema) -> Result<Stepped, AllocError>
         ensures done { IfOk result
             (λ s. StepsTo self.old session (DoCommand (command.Schema schema)) s self.new) }
@@ -82,7 +82,7 @@ impl<P: Post + Drop> Core<P> {
         self.redefine(session, schema)
     }
 
-    /// What refuses a schema command before its table is looked at.
+    /// The refusal of a schema command that does not depend on its table, if there is one.
     fn schema_refusal(&self, session: u32) -> Option<Reply>
         ensures { result
             ≡ refused_by self.now session inside_refusal (session_at self.now.sessions session) }
@@ -144,8 +144,8 @@ fn deliver_commit<P: Post + Drop>(
     Ok(with_overflowed(stepped, over))
 }
 
-/// The outermost commit of the session: with these tables, or else it makes its only change itself, in place where nothing is
-/// shared. Where memory is refused nothing changes.
+/// Commits the session's outermost transaction: with these tables, or else it makes its only change itself, in place if
+/// nothing is shared. If memory is refused nothing changes.
 fn commit_to<P: Post + Drop>(
     machine: &mut Machine<P>,
     session: u32,
@@ -175,7 +175,7 @@ fn next_commit<P: Post + Drop>(machine: &Machine<P>) -> Result<u64, AllocError>
     }
 }
 
-/// What a commit owes to who watches, if it owes anything.
+/// The events of a commit for the subscribers, if there are any.
 fn expected<P: Post + Drop>(
     alloc: Global,
     machine: &Machine<P>,
@@ -213,7 +213,7 @@ fn updated_by<P: Post + Drop>(
     }
 }
 
-/// Whether someone watches a table of the changes.
+/// Returns whether someone watches a table of the changes.
 fn are_watched<P: Post + Drop>(
     alloc: Global,
     subs: &Subs<P>,
@@ -271,7 +271,7 @@ fn only_event<P: Post + Drop>(
     })
 }
 
-/// The event of a change that is about to be made, where someone watches its table.
+/// Adds the event of a change that is about to be made, if a session watches its table.
 fn push_watched<P: Post + Drop>(
     alloc: Global,
     events: &mut Vec<Event>,

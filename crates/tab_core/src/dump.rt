@@ -8,8 +8,8 @@ use tab_lists::SharedTerms;
 use tab_tables::Catalog;
 use tab_term::{Atom, Terms};
 
-/// A table's records as they are committed, by keys, and of each key in the order of their insertion, where a dump is
-/// asked for. They are shared with the table, and take no memory.
+/// A table's committed records, by keys, and of each key in the order of their insertion, if a dump is asked for. They
+/// are shared with the table, and take no memory.
 pub fn dump_of(
     alloc: Global,
     tables: &Catalog,

@@ -24,8 +24,8 @@ pub(crate) struct Ending<'a> {
 }
 
 impl<P: Post + Drop> Machine<P> {
-    /// The transaction that a commit of the session would end, and what it would change: of a session that waits for nothing, and
-    /// stands in no child.
+    /// The transaction that a commit of the session would end, and its changes. None if the session waits for a lock or
+    /// is in a child.
     pub(crate) fn outermost<'a>(&'a self, session: u32) -> Option<Ending<'a>>
         requires kept { IsKept (parts_of self.now) }
         ensures { option_map age_and_updates result
@@ -40,7 +40,7 @@ impl<P: Post + Drop> Machine<P> {
         }
     }
 
-    /// Of a session that waits for nothing.
+    /// The same at the session's index, if it waits for nothing.
     fn ending<'a>(&'a self, session: u32, place: usize) -> Option<Ending<'a>>
         requires kept { IsKept (parts_of self.now) }
         requires there { IsHeldAt self.now.sessions session place }

@@ -20,21 +20,21 @@ use tab_model::{Limit, Reply};
 use tab_outbox::Post;
 
 impl<P: Post + Drop> Machine<P> {
-    /// Whether the session waits for a lock.
+    /// Returns whether the session waits for a lock.
     pub(crate) fn waits(&self, session: u32) -> bool
         ensures { result ≡ is_waiting (state_with self.now) session }
     {
         find(&self.queue, session).is_some()
     }
 
-    /// Whether some session waits or rests.
+    /// Returns whether some session waits or backs off.
     pub(crate) fn has_waiters(&self) -> bool
         ensures { IsFalse result → self.now.queue.items ≡ [] }
     {
         !self.queue.is_empty() || self.ages.anyone_rests()
     }
 
-    /// The sessions that wait and would be granted their lock now, or rest and may go on.
+    /// The sessions that wait and would be granted their lock now, and those whose back-off may end.
     pub(crate) fn ready(&self) -> ArrayVec<u32, SESSIONS>
         requires kept { IsKept (parts_of self.now) }
         ensures { AreReady (state_with self.now) result.items }
@@ -49,7 +49,7 @@ impl<P: Post + Drop> Machine<P> {
         ready
     }
 
-    /// Whether the session at the place waits and would be granted its lock now, or rests and may go on.
+    /// Returns whether the session at the index waits and would be granted its lock now, or its back-off may end.
     fn is_ready(&self, place: usize) -> bool
         requires { place < length self.now.sessions }
         ensures { IsReadyAt (parts_of self.now) place result }
@@ -60,7 +60,7 @@ impl<P: Post + Drop> Machine<P> {
         }
     }
 
-    /// How many levels the session has open, up to the greatest 64 bit number.
+    /// The number of the session's open levels, up to the greatest 64 bit number.
     pub(crate) fn levels(&self, session: u32) -> u64
         requires kept { IsKept (parts_of self.now) }
         ensures { result ≡ min (levels_of (state_with self.now) session) (2 ^ 64 - 1) }
@@ -82,7 +82,7 @@ impl<P: Post + Drop> Machine<P> {
         (transaction.store.depth() as u64).saturating_add(1)
     }
 
-    /// Whether the session's number and the limit of sessions let it join.
+    /// Returns whether the session's number and the limit of sessions let it join.
     pub(crate) fn admits(&self, session: u32) -> bool
         ensures { result
             ≡ (nat_lt self.now.greatest session && nat_lt
@@ -91,8 +91,8 @@ impl<P: Post + Drop> Machine<P> {
         session > self.greatest && (self.sessions.len() as u64) < self.limits.sessions
     }
 
-    /// A session takes its number, which is greater than all that joined before, and its post. Memory is taken for its place
-    /// alone.
+    /// Adds a session with its number, which is greater than all that joined before, and its post. It takes memory only
+    /// for the session's slot.
     pub(crate) fn join(&mut self, session: u32, post: P) -> Result<Stepped, AllocError>
         requires kept { IsKept (parts_of self.old) }
         ensures done { IfOk result

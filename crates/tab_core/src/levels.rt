@@ -58,7 +58,7 @@ impl<P: Post + Drop> Machine<P> {
         Ok(Reply::Tid(self.begun))
     }
 
-    /// Level 1 of a one-shot, with the next age: it stands in no other transaction.
+    /// Opens level 1 of a one-shot, with the next age, unless the session is in a transaction.
     pub(crate) fn one_shot(&mut self, session: u32, place: usize) -> Result<Reply, AllocError>
         requires kept { IsKept (parts_of self.old) }
         requires there { IsHeldAt self.old.sessions session place }
@@ -79,8 +79,8 @@ impl<P: Post + Drop> Machine<P> {
         Ok(self.begin(session, place)?)
     }
 
-    /// A commit that puts nothing into posts: of a child, or the outermost where no one watches what it changes, or one that is
-    /// refused. Where memory is refused nothing changes.
+    /// A commit that puts nothing into posts: of a child, or the outermost if no one watches its tables, or one that is
+    /// refused. If memory is refused nothing changes.
     pub(crate) fn commit(&mut self, session: u32) -> Result<Stepped, AllocError>
         requires kept { IsKept (parts_of self.old) }
         ensures done { IfOk result
@@ -161,7 +161,7 @@ impl<P: Post + Drop> Machine<P> {
     }
 }
 
-/// A child begins, where there is room for one more level and one more move.
+/// Begins a child, if there is room for one more level and one more move.
 fn nest(limits: &Limits, slot: &mut Option<Transaction>) -> Result<Reply, AllocError>
     requires { IsSome slot.old }
     ensures ok { IfSome slot.old (λ t. IfOk result (NestsTo limits.now t slot.new)) }
@@ -199,8 +199,8 @@ fn join_level(slot: &mut Option<Transaction>)
     }
 }
 
-/// The tables with a transaction's updates, which share the records that it has already. Where there are none it takes no
-/// memory.
+/// Makes a transaction's updates in the tables, which share the records that it has already. If there are none it takes
+/// no memory.
 fn commit_to(alloc: Global, catalog: &mut Catalog, store: &TxStore) -> Result<(), AllocError>
     ensures ok { OnOk result (catalog.new ≡ change_all catalog.old store.now.levels.now.updates) }
     ensures free { store.now.levels.now.updates ≡ [] → IsOk result }

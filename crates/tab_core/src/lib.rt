@@ -1,7 +1,8 @@
-//! The core: a machine of steps over tables and one list of sessions, each with its transaction, what it watches and its post.
+//! The core: a machine of steps over tables and one list of sessions, each with its transaction, its subscriptions and
+//! its post.
 //!
 //! Contracts see a core as one plain state (`State` of tab_model), and a step is a function of it (`outcome`) and of
-//! which posts refuse. Of a one-shot a step opens level 1 alone: its driver does the rest.
+//! the posts that refuse. A one-shot's step only opens level 1: its driver does the other steps.
 
 #![tactic(auto)]
 
@@ -16,6 +17,7 @@ ghost use Rattle.tab_core.specs.Runs.{ask_of, asks_of, AllJoinEmpty, StepsTo, St
 ghost use Rattle.tab_core.specs.Steps.{takes_no_memory};
 
 mod committing;
+mod contended;
 mod dump;
 mod ending;
 mod joining;
@@ -41,11 +43,11 @@ use tab_subs::Subs;
 use tab_tables::Catalog;
 pub use tab_waitdie::Rest;
 
-/// A core: tables, sessions, and what each of them is told.
+/// A core: tables, sessions, and the items of each session.
 ///
-/// Contracts see it as one plain state. Whenever a core stands, each open transaction was told what it is told
-/// alone on the tables as they are, and no two transactions hold locks that conflict (`IsSound`); ages rise along every wait,
-/// and each queued request is of its session's open transaction (`IsRising`).
+/// Contracts see it as one plain state. In every state of a core, the replies of each open transaction are those of
+/// running it by itself on the tables as they are. No two transactions hold locks that conflict (`IsSound`). Ages rise
+/// along every wait, and each queued request is of its session's open transaction (`IsRising`).
 #[derive(Drop)]
 pub struct Core<P: Post> {
     machine: Machine<P>,
@@ -160,7 +162,7 @@ impl<P: Post + Drop> Core<P> {
         Ok(replies)
     }
 
-    /// One step of a session, and its reply, which is NoMemory where memory was refused.
+    /// Makes one step of a session. Its reply is NoMemory if memory was refused.
     fn step_reply(&mut self, session: u32, step: Step<P>) -> SharedReply
         ensures { (log : List EntryOf)
             × StepsOrNoMemory self.old (session, ask_of P.outbox step) result log self.new }

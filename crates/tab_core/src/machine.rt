@@ -20,10 +20,10 @@ use tab_tables::{Catalog, table_info};
 use tab_txstore::Whole;
 use tab_waitdie::Ages;
 
-/// How many sessions are joined at most. Their sessions are searched one after another.
+/// The most sessions that are joined. They are searched one after another.
 pub const SESSIONS: usize = 64;
 
-/// The tables, who holds locks and who waits.
+/// The tables, the sessions, and their locks and waits.
 pub(crate) struct Machine<P: Post> {
     pub(crate) alloc: Global,
     /// The tables as they are committed.
@@ -32,9 +32,9 @@ pub(crate) struct Machine<P: Post> {
     pub sessions: Subs<P>,
     pub(crate) ages: Ages,
     pub(crate) queue: Vec<Request>,
-    // How many outermost transactions have begun.
+    // The number of outermost transactions that have begun.
     pub(crate) begun: u64,
-    /// How many commits there were.
+    /// The number of commits.
     pub commits: u64,
     /// The greatest number that has joined.
     pub greatest: u32,
@@ -82,8 +82,8 @@ impl<P: Post + Drop> Machine<P> {
         }
     }
 
-    /// A command that puts nothing into a post: no commit, no schema command, no subscription. Where memory is refused nothing
-    /// changes.
+    /// A command that puts nothing into a post: no commit, no schema command, no subscription. If memory is refused
+    /// nothing changes.
     pub(crate) fn command(&mut self, session: u32, command: Command) -> Result<Stepped, AllocError>
         requires quiet { IsTrue (is_quiet command) }
         requires kept { IsKept (parts_of self.old) }

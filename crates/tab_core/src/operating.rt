@@ -26,7 +26,7 @@ use tab_tables::Catalog;
 use tab_txstore::{Whole, needs, perform};
 use tab_waitdie::{Ages, LockDecision};
 
-/// What an operation was told, and whether it ended its transaction: by a failure at level 1.
+/// The reply of an operation, and whether it ended its transaction: by a failure at level 1.
 pub(crate) struct Worked {
     pub reply: SharedReply,
     pub over: bool,
@@ -150,7 +150,7 @@ impl<P: Post + Drop> Machine<P> {
     }
 }
 
-/// An operation whose lock was granted last. Where it is refused memory, the lock goes again.
+/// Performs an operation whose lock was granted last. If it is refused memory, the lock is given back.
 fn work(
     alloc: Global,
     catalog: &Catalog,
@@ -196,7 +196,7 @@ pub(crate) fn end_if(over: bool, slot: &mut Option<Transaction>, ages: &mut Ages
     }
 }
 
-/// A younger transaction gives way: its operations and locks are gone; its age stays, and it rests for the lock.
+/// Restarts a younger transaction: its operations and locks are gone, its age stays, and it backs off for the lock.
 fn restart(slot: &mut Option<Transaction>, ages: &mut Ages)
     ensures slot { slot.new ≡ restarted slot.old }
     ensures ages { ages.new ≡ forgotten_if ages.old slot.old }

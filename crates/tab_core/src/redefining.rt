@@ -18,8 +18,8 @@ use tab_term::Atom;
 use tab_txstore::Whole;
 
 impl<P: Post + Drop> Machine<P> {
-    /// A command on tables' definitions, of a session that stands in no transaction, refused while anyone holds or awaits a lock in
-    /// the table. Where memory is refused nothing changes.
+    /// A command on tables' definitions, of a session in no transaction. It is refused while anyone holds or awaits a
+    /// lock in the table. If memory is refused nothing changes.
     pub(crate) fn schema(&mut self, schema: Schema) -> Result<Stepped, AllocError>
         ensures done { IsKept (parts_of self.old) → IfOk result
             (λ s. Redefines (state_with self.old) schema s (state_with self.new)) }
@@ -63,7 +63,7 @@ impl<P: Post + Drop> Machine<P> {
         })
     }
 
-    /// Whether the limit of tables lets the command pass.
+    /// Returns whether the limit of tables lets the command pass.
     fn has_room(&self, command: &Schema) -> bool
         ensures { result ≡ has_room (state_with self.now) command.now }
     {

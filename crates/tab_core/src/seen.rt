@@ -13,21 +13,21 @@ use tab_outbox::{Mailbox, Met, Post};
 use tab_term::Atom;
 
 impl<P: Post + Drop> Core<P> {
-    /// Whether a session of this number is joined.
+    /// Returns whether a session of this number is joined.
     pub fn joined(&self, session: u32) -> bool
         ensures { result ≡ is_joined self.now session }
     {
         self.machine.sessions.place(session).is_some()
     }
 
-    /// Whether the session waits for a lock.
+    /// Returns whether the session waits for a lock.
     pub fn waits(&self, session: u32) -> bool
         ensures { result ≡ is_waiting self.now session }
     {
         self.machine.waits(session)
     }
 
-    /// How the session's rest stands: whether it was restarted for a lock that is not free yet.
+    /// The back-off state of the session: whether it was restarted for a lock that is not free yet.
     pub fn rest(&self, session: u32) -> Rest {
         let sessions = &self.machine.sessions;
         let Some(place) = sessions.place(session) else {
@@ -39,21 +39,21 @@ impl<P: Post + Drop> Core<P> {
         }
     }
 
-    /// The sessions that wait and would be granted their lock now, or rest and may go on.
+    /// The sessions that wait and would be granted their lock now, and those whose back-off may end.
     pub fn ready(&self) -> ArrayVec<u32, SESSIONS>
         ensures { AreReady self.now result.items }
     {
         self.machine.ready()
     }
 
-    /// Whether some session waits or rests.
+    /// Returns whether some session waits or backs off.
     pub fn has_waiters(&self) -> bool
         ensures { IsFalse result → self.now.queue ≡ [] }
     {
         self.machine.has_waiters()
     }
 
-    /// Whether the session's number and the limit of sessions let it join.
+    /// Returns whether the session's number and the limit of sessions let it join.
     pub fn admits(&self, session: u32) -> bool
         ensures { result
             ≡ (nat_lt self.now.greatest session && nat_lt
@@ -62,7 +62,7 @@ impl<P: Post + Drop> Core<P> {
         self.machine.admits(session)
     }
 
-    /// How many sessions watch the table.
+    /// The number of sessions that watch the table.
     pub fn watchers(&self, table: &Atom) -> usize
         ensures { result
             ≡ count_by (λ s. is_some (level_in s.watching table.now)) self.now.sessions }
@@ -77,14 +77,14 @@ impl<P: Post + Drop> Core<P> {
         self.machine.greatest
     }
 
-    /// How many outermost transactions were committed.
+    /// The number of outermost transactions that were committed.
     pub fn commits(&self) -> u64
         ensures { result ≡ self.now.commits }
     {
         self.machine.commits
     }
 
-    /// How many levels the session has open, up to the greatest 64 bit number.
+    /// The number of the session's open levels, up to the greatest 64 bit number.
     pub fn levels(&self, session: u32) -> u64
         ensures { result ≡ min (levels_of self.now session) (2 ^ 64 - 1) }
     {
@@ -99,7 +99,7 @@ impl<P: Post + Drop> Core<P> {
         self.machine.sessions.post(session)
     }
 
-    /// The number of the session's overflow, where it was not told yet. None of one that isn't joined.
+    /// The number of the session's overflow, if the session has not taken it yet. None if it isn't joined.
     pub fn overflow(&self, session: u32) -> Option<u64>
         ensures { MatchOption (session_at self.now.sessions session) (result ≡ None)
             (λ s. result ≡ s.overflow) }

@@ -5,7 +5,7 @@ ghost use Rattle.tab_core.specs.Owing.{with_overflowed as with_overflowed_of};
 
 use tab_model::{Entry, Reply, Sessions, SharedReply};
 
-/// What a step answers, and what it adds to the log.
+/// The reply of a step, and its entry of the log.
 #[derive(Drop)]
 pub struct Stepped {
     pub reply: SharedReply,
@@ -20,14 +20,14 @@ impl Stepped {
         Stepped::told(SharedReply::new(reply))
     }
 
-    /// What an operation was told, which its trace may share.
+    /// The reply of an operation, which its trace may share.
     pub fn told(reply: SharedReply) -> Stepped
         ensures { result ≡ record { reply = reply; entry = None } }
     {
         Stepped { reply, entry: None }
     }
 
-    /// The reply alone.
+    /// Returns only the reply.
     pub fn into_reply(self) -> SharedReply
         ensures { result ≡ self.reply }
     {

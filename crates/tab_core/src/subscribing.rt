@@ -21,8 +21,8 @@ use tab_subs::Marked;
 use tab_term::Atom;
 
 impl<P: Post + Drop> Core<P> {
-    /// The session watches the table from here on. Its begin marker has the table's records as they are committed, where a
-    /// dump is asked for.
+    /// Subscribes the session to the table from here on. Its begin marker has the table's committed records, if a dump
+    /// is asked for.
     pub(crate) fn subscribe(
         &mut self,
         session: u32,
@@ -58,7 +58,7 @@ impl<P: Post + Drop> Core<P> {
         ))
     }
 
-    /// What refuses a subscription but its post.
+    /// The refusal of a subscription, except by its post.
     fn subscribe_refusal(&self, session: u32, table: &Atom) -> Result<Option<Reply>, AllocError>
         ensures ok { IfOk result
             (λ refusal. refusal
@@ -122,7 +122,7 @@ impl<P: Post + Drop> Core<P> {
         Ok(marked_reply(marked, Entry::Unsubscribed(session, table)))
     }
 
-    /// What refuses the end of a subscription but its post.
+    /// The refusal of the end of a subscription, except by its post.
     fn unsubscribe_refusal(
         &self,
         session: u32,
@@ -147,7 +147,7 @@ impl<P: Post + Drop> Core<P> {
     }
 }
 
-/// Whether a table is watched at this level.
+/// Returns whether a table is watched at this level.
 fn is_at(watched: Option<Level>, level: Level) -> bool
     ensures { result ≡ is_at_of watched level }
 {

@@ -11,7 +11,7 @@ static INPUT: &[u8] =
 static OUTPUT: &[u8] =
     b"\x00\x00\x00\x09\x83h\x02a\x01w\x02ok\x00\x00\x00\x13\x83h\x02a\x01h\x02w\x06atomicw\x02ok\x00\x00\x00\x0e\x83h\x02a\x01h\x02w\x03tida\x01\x00\x00\x00\x09\x83h\x02a\x01w\x02ok\x00\x00\x00\x15\x83h\x02a\x01l\x00\x00\x00\x01h\x03w\x01ta\x01w\x01aj\x00\x00\x00\x11\x83h\x02a\x01h\x02w\x06atomica\x01";
 
-/// So many calls a run makes with eight bytes a call: reads, the last of which finds the end, and writes and flushes.
+/// The calls of a run with eight bytes a call: reads, the last of which finds the end, and writes and flushes.
 const READS: u32 = 17;
 
 const WRITES: u32 = 33;

@@ -1,4 +1,4 @@
-//! Events read back and shaped again, and what a mirror makes of what it is told.
+//! Events read back and shaped again, and mirrors that are fed them.
 use std::alloc::Global;
 use tab_etf::{Body, EncodeFault, Leaf, Outline, append_frame, append_outline, decode};
 use tab_events::{Event, Level, Mirror, Mirrored, change_of, shape};
@@ -7,7 +7,7 @@ use tab_rows::Kind;
 use tab_term::{Term, Terms};
 use tab_test_tools::atom;
 
-/// Events at their levels: an update of the record `{t,1,a}`, or of the key 1, where `{t,1,b}` stood before; the
+/// Events at their levels: an update of the record `{t,1,a}`, or of the key 1, whose record was `{t,1,b}` before; the
 /// transaction's age is 1.
 static EVENTS: [(&[u8], Level); 6] = [
     (
@@ -38,7 +38,7 @@ static EVENTS: [(&[u8], Level); 6] = [
 
 static OLD: &[u8] = b"\x83h\x03w\x01ta\x01w\x01b";
 
-/// Whether an event is written as this term is.
+/// Returns whether an event is written as this term is.
 fn is_written(alloc: Global, event: &EventTerm, told: &Term) -> Result<bool, EncodeFault> {
     let outline = Outline {
         first: None,
@@ -52,7 +52,7 @@ fn is_written(alloc: Global, event: &EventTerm, told: &Term) -> Result<bool, Enc
     Ok(written.as_slice() == wanted.as_slice())
 }
 
-/// Whether the term's change is shaped as that term again; None where it has no change.
+/// Returns whether the term's change is shaped as that term again; None if it has no change.
 fn is_shaped(
     alloc: Global,
     told: &Term,
@@ -89,8 +89,8 @@ fn events_are_read_back(rt: HostRuntime) {
     }
 }
 
-/// A mirror of the table t is told these, one after another; then it has the records of these keys, written one behind the
-/// other, where it has rows.
+/// A mirror of the table t is fed these, one after another. Then it has the records of these keys, written one after
+/// the other, if it has rows.
 static TOLD: [(&[u8], Mirrored, Option<u32>); 18] = [
     (WRITE_3, Mirrored::Other, None),
     (UNSUBSCRIBED, Mirrored::Ended, None),

@@ -13,7 +13,7 @@ use tab_test_tools::atom;
 /// A move of session 1 in table t, whose records are `{t, 1, V}`.
 enum Made {
     Write(i128),
-    /// Of key 1, which is told this value.
+    /// Of key 1, which gives this value.
     Read(i128),
     /// Of a table that isn't there.
     Fail,
@@ -194,7 +194,7 @@ fn value_in(mut records: Iter<'_>) -> Option<i128> {
     }
 }
 
-/// What stands in the base: the last commit's number, how many subscriptions, the value at key 1 of table t.
+/// The contents of the base: the last commit's number, the number of subscriptions, the value at key 1 of table t.
 fn base_of(alloc: Global, journal: &Journal) -> Result<(u64, usize, Option<i128>), AllocError> {
     let name = atom(alloc, "t")?;
     let value = match journal.base().tables().table(&name) {
@@ -242,8 +242,8 @@ fn a_full_journal_hands_back(rt: HostRuntime) {
     assert!(rt; journal.try_push(entry).is_err() && journal.len() == 3);
 }
 
-/// Commands on a table, then commits of so many moves, and how many of these entries a journal that has room for more of them
-/// folds until it is no longer full.
+/// Commands on a table, then commits of these numbers of moves, in a journal that has room for more entries. Then the
+/// number of entries that it folds until it is no longer full.
 static WEIGHTS: [(usize, &[usize], usize); 7] = [
     (0, &[], 0),
     (0, &[131_071], 0),
@@ -272,7 +272,7 @@ fn long_commit(alloc: Global, count: usize) -> Result<Entry, AllocError> {
     })
 }
 
-/// So many times the command that makes table t.
+/// Pushes the command that creates table t `count` times.
 fn push_commands(alloc: Global, journal: &mut Journal, count: usize) -> Result<(), AllocError> {
     for _command in 0..count {
         let create = Schema::Create(atom(alloc, "t")?, Terms::from_vec(Vec::new(alloc)));
@@ -283,7 +283,7 @@ fn push_commands(alloc: Global, journal: &mut Journal, count: usize) -> Result<(
     Ok(())
 }
 
-/// It folds so many, and hands an entry back before where it has to fold any.
+/// Returns whether it folds `wanted` entries, and refuses an entry before if it has to fold any.
 fn folds_until_room(
     alloc: Global,
     commands: usize,

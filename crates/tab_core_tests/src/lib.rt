@@ -1,6 +1,6 @@
-//! Tests of the public calls of the machine of steps and of what it stands on, where a stream of the built program can't show
-//! them: a run of steps, devices that fail, mirrors, audits, records in entries of their own, and one-shots on a session that is
-//! played.
+//! Tests of the public calls of the machine of steps and of the crates below it, which a stream of the built program
+//! can't show. They are a run of steps, devices that fail, mirrors, audits, records in entries of their own, and
+//! one-shots on a session that is played.
 
 #![tactic(auto)]
 

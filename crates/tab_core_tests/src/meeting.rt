@@ -14,15 +14,6 @@ use tab_outbox::{Met, Post, RingPost};
 use tab_post::{Channel, ChannelPost, Host, Inbox, Naming, NewMailbox, Opened, Prefix, Register};
 use tab_proto::{append_reply, read_request};
 
-static LIMITS: Limits = Limits {
-    sessions: 1,
-    nesting: 1,
-    operations: 100,
-    tables: 2,
-    ages: 9223372036854775807,
-    journal: 1024,
-};
-
 const OUTBOX: usize = 64;
 
 /// Requests of session 1, which has joined, and the frames of their replies.
@@ -250,7 +241,7 @@ fn reply_to<P: Post + Drop>(core: &mut Core<P>, ask: Ask<()>) -> SharedReply {
     }
 }
 
-/// What a Take replies, by the two ends of the mailbox.
+/// The reply of a Take, by the two ends of the mailbox.
 fn met<H: Host>(core: &mut Core<ChannelPost<H>>, inbox: &mut Inbox<H>) -> SharedReply {
     match core.meet(1, inbox) {
         Some(Met::Going(item)) => SharedReply::new(Reply::Taken(item)),
@@ -267,7 +258,7 @@ fn is_told(alloc: Global, reply: &SharedReply, wanted: &[u8]) -> Result<bool, Fa
 
 /// The first request with another reply, over a ring.
 fn differs_by_take(alloc: Global, row: Row) -> Result<Option<usize>, Fail> {
-    let mut core = Core::new(alloc, LIMITS);
+    let mut core = Core::new(alloc, Limits::STANDARD);
     let post = RingPost::with_capacity(alloc, OUTBOX)?;
     drop(stepped(&mut core, Step::Join(post)));
     for (number, (request, wanted)) in row.iter().enumerate() {
@@ -286,7 +277,7 @@ fn differs_by_meet<H: Host>(
     post: ChannelPost<H>,
     inbox: &mut Inbox<H>,
 ) -> Result<Option<usize>, Fail> {
-    let mut core = Core::new(alloc, LIMITS);
+    let mut core = Core::new(alloc, Limits::STANDARD);
     drop(stepped(&mut core, Step::Join(post)));
     for (number, (request, wanted)) in row.iter().enumerate() {
         let reply = match ask_in(alloc, request)? {
@@ -300,7 +291,7 @@ fn differs_by_meet<H: Host>(
     Ok(None)
 }
 
-/// Whether a row has its replies over both.
+/// Returns whether a row has its replies over both.
 fn is_same<H: Host>(
     rt: H,
     alloc: Global,

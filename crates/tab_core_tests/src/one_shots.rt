@@ -7,8 +7,8 @@ use tab_proto::append_reply;
 use tab_term::Term;
 use tab_test_tools::atom;
 
-/// A one-shot's list (`r` reads, `x` aborts with 7, an inner list in parentheses), how many restarts it may make, the
-/// session's answers, what the session is to be asked, and the reply's term as it is spelled.
+/// A one-shot's list (`r` reads, `x` aborts with 7, an inner list in parentheses) and its retries. Then the session's
+/// answers, the commands that the session is to receive, and the encoding of the reply's term.
 struct Case {
     list: &'static str,
     retries: u64,
@@ -364,7 +364,7 @@ static CASES: [Case; 48] = [
     },
 ];
 
-/// An answer is a stranger's, who used the session: each in turn of one run, and some of others.
+/// An answer to a stranger's command in the same session: each in turn of one run, and some of others.
 static STRANGERS: [Case; 13] = [
     Case {
         list: "r(rxr)r",
@@ -476,7 +476,7 @@ fn parts_of(alloc: Global, list: &[u8]) -> Result<Parts, AllocError> {
     Parts::new(alloc, items)
 }
 
-/// Whether the session was asked and the reply made as the case says.
+/// Returns whether the session was asked and the reply made as the case says.
 fn is_right(alloc: Global, case: &Case) -> Result<bool, AllocError> {
     let mut slot = Played {
         alloc,
@@ -491,7 +491,7 @@ fn is_right(alloc: Global, case: &Case) -> Result<bool, AllocError> {
     let reply = one_shot(&mut slot, alloc, Command::OneShot(parts, case.retries));
     let mut frame = Vec::new(alloc);
     let is_put = append_reply(None, reply.reply(), &mut frame).is_ok();
-    // Behind the length, 131, and `{reply, ..`.
+    // After the length, 131, and `{reply, ..`.
     Ok(is_put && slot.is_right() && frame.get(14..) == Some(case.reply.as_bytes()))
 }
 

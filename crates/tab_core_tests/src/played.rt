@@ -11,15 +11,15 @@ use tab_oneshot::Steps;
 use tab_term::{Term, Terms};
 use tab_test_tools::atom;
 
-/// Each answer is one letter; where they end, it answers `BadTerm`.
+/// A session whose answers are given, one letter each; after their end it answers `BadTerm`.
 #[derive(Drop)]
 pub struct Played {
     pub alloc: Global,
     pub answers: &'static [u8],
-    /// One letter for each call: `o` the whole command, `d` an operation, `b` a begin, `c` a commit, `a` an abort of the
-    /// list, `z` an abort of 0, `w` a wait, `+` again.
+    /// One letter for each call. `o` is the whole command, `d` an operation, `b` a begin, `c` a commit. `a` is an abort
+    /// of the list, `z` an abort of 0, `w` a wait, `+` again.
     pub wanted: &'static [u8],
-    /// How many parts the whole command is to have.
+    /// The number of parts that the whole command is to have.
     pub parts: usize,
     pub answered: usize,
     pub asked: usize,

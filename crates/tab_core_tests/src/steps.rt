@@ -22,7 +22,7 @@ fn replies(alloc: Global, core: &mut Core<RingPost>) -> Result<Vec<SharedReply>,
     core.run_steps(alloc, steps)
 }
 
-/// What a reply is in one number.
+/// A reply as one number.
 fn number(told: &SharedReply) -> u64 {
     match told.reply() {
         Reply::Done => 10,

@@ -16,7 +16,7 @@ use tab_term::spelling::{LIST_EXT, NIL_EXT, SMALL_TUPLE_EXT};
 
 // ---- how long they are
 
-/// How many bytes stand before the value of `{Word, Value}`.
+/// The number of bytes before the value of `{Word, Value}`.
 pub(crate) fn word_len(word: &str) -> u64
     requires { length word.now ≤ 255 }
     ensures value { result ≡ 2 + length (canon (atom word.now)) }
@@ -25,7 +25,7 @@ pub(crate) fn word_len(word: &str) -> u64
     atom_len(word.len()) + 2
 }
 
-/// How many bytes the list of the answers takes; `u64::MAX` stands for more.
+/// The length in bytes of the list of the answers; `u64::MAX` if it is more.
 #[cycle(len)]
 pub fn answers_len(answers: &Answers) -> u64
     ensures { result ≡ min (length (canon (list answers.now))) u64.MAX }
@@ -62,7 +62,7 @@ fn all_len(items: &[Answer]) -> u64
 
 // ---- how they are written
 
-/// What stands before the value of `{Word, Value}`.
+/// Writes the bytes before the value of `{Word, Value}`.
 #[tactic(auto, using(crate::proofs::WritingLemmas::writes_then))]
 pub(crate) fn put_word<W: Target>(writer: &mut Writer<W>, word: &str)
     requires { length word.now ≤ 255 }

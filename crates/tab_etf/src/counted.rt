@@ -30,14 +30,14 @@ impl<T> Counted<T> {
         }
     }
 
-    /// How often the device failed so far. At `u64::MAX` the number stays.
+    /// The number of faults of the device so far. At `u64::MAX` the number stays.
     pub fn faults(&self) -> u64
         ensures { result ≡ self.now.faults }
     {
         self.faults
     }
 
-    /// The reader or writer, which stays where it is.
+    /// The reader or writer, borrowed.
     pub(crate) fn inner(&self) -> &T
         ensures { result.now ≡ self.now.inner }
     {

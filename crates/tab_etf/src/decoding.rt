@@ -18,7 +18,7 @@ use tab_term::{Term, Terms};
 /// The deepest level that is read. The outermost term is at level 1.
 const LEVELS: usize = 64;
 
-/// How many places a list or tuple has at first, if it says that it has more elements than these.
+/// The initial capacity of a list or tuple, if it says that it has more elements than this.
 const FIRST_PLACES: usize = 16;
 
 #[tactic(auto, unfolding(crate::specs::Reading::end_of_list))]
@@ -63,7 +63,7 @@ fn long_list_of(alloc: Global, levels: usize, bytes: &[u8]) -> Result<(Term, &[u
     Ok((Term::List(terms), rest))
 }
 
-/// Adds a term, with no call where it has a place.
+/// Adds a term, with no call if there is capacity.
 fn push(items: &mut Vec<Term>, item: Term) -> Result<(), AllocError>
     ensures { OnOk result (items.new.items ≡ items.old.items ++ item ∷ []) }
 {
@@ -75,7 +75,7 @@ fn push(items: &mut Vec<Term>, item: Term) -> Result<(), AllocError>
     Ok(())
 }
 
-/// So many terms. The count alone makes no room: places come as elements are read.
+/// Reads `count` terms. The count does not reserve room by itself: capacity grows as elements are read.
 #[cycle(read)]
 fn terms_of(
     alloc: Global,
@@ -96,7 +96,8 @@ fn terms_of(
     Ok((Terms::from_vec(items), rest))
 }
 
-/// The next pair. Its key is noted before its value is read: a key that stands there already is told first.
+/// Reads the next pair. It notes the key before it reads the value: a key twice is reported before a fault of its
+/// value.
 #[cycle(read)]
 fn pair_of<'a>(
     alloc: Global,
@@ -116,7 +117,7 @@ fn pair_of<'a>(
     Ok(rest)
 }
 
-/// So many pairs, or those before the first fault, with no look at a key that stands there twice.
+/// Reads `count` pairs, or those before the first fault. It does not check for a key twice.
 #[cycle(read)]
 fn run_of<'a>(
     alloc: Global,
@@ -214,22 +215,23 @@ fn placed(alloc: Global, payload: &[u8]) -> Result<Term, EtfFault>
     }
 }
 
-/// The term of a payload: the byte 131 and one term of at most 64 levels.
+/// Decodes the term of a payload: the byte 131 and one term of at most 64 levels.
 ///
-/// A list, tuple or map reserves no place for an element by its count alone. The keys of a map may come in any order.
+/// The count of a list, tuple or map does not reserve room for its elements by itself. The keys of a map may come in
+/// any order.
 pub fn decode(alloc: Global, payload: &[u8]) -> Result<Term, EtfFault>
     ensures found { IfOk result
         (λ t. (b : List ℕ) × (payload.now ≡ 131 ∷ b) × Spells (term t) b × (depth (term t) ≤ 64)) }
     ensures only { (t : PlainTerm) (b : List ℕ) → payload.now ≡ 131 ∷ b → Spells t b → depth t ≤ 64
         → Decodes term (length payload.now) result (Ok t) }
 
-    // Which fault it is, and where.
+    // The exact fault, and its position.
     ensures exact { Decodes term (length payload.now) result (whole payload.now) }
 {
     placed(alloc, payload)
 }
 
-/// No spelling begins another, and one byte list spells one term.
+/// No encoding is a prefix of another, and one byte list encodes one term.
 pub fn spellings_are_apart()
     ensures { (s t : PlainTerm) (a b x y : List ℕ) → Spells s a → Spells t b → a ++ x ≡ b ++ y
         → (a ≡ b) × (s ≡ t) }

@@ -10,18 +10,18 @@ use thiserror::Error;
 #[error("the device failed")]
 pub struct Broken;
 
-/// What bytes are read from.
+/// A device that bytes are read from.
 ///
-/// How often it has failed is its own word, which no code over the trait can change: where such code answers that the
-/// device failed, and says by how much the count rose, a call of the device failed. At `u64::MAX` the count stays.
+/// Its count of faults is its own, and no code over the trait can change it. If such code returns `Broken` and states
+/// by how much the count rose, a call of the device failed. At `u64::MAX` the count stays.
 pub trait Source {
-    /// The bytes that are left, where they are known.
+    /// The bytes that are left, if they are known.
     ghost remaining: { Self → Option (List ℕ) };
 
-    /// How often it has failed.
+    /// The number of its faults.
     ghost faults: { Self → ℕ };
 
-    /// One read into this buffer. No byte comes only at the stream's end, or where the buffer has no room.
+    /// Reads into this buffer. It returns 0 only at the stream's end, or if the buffer has no room.
     fn get(&mut self, buf: &mut [u8]) -> Result<usize, Broken>
         ensures bound { IfOk result (λ n. n ≤ length buf.new) }
         ensures bytes { ReadConsumes (remaining self.old) (remaining self.new) result buf.new }
@@ -29,15 +29,15 @@ pub trait Source {
         ensures rose { OnErr result (faults self.new ≡ min (faults self.old + 1) u64.MAX) };
 }
 
-/// What bytes are written to. Of its faults the same holds as of a `Source`'s.
+/// A device that bytes are written to. It counts its faults as a `Source` does.
 pub trait Target {
-    /// The bytes that it holds, where they are known.
+    /// The bytes that it has, if they are known.
     ghost contents: { Self → Option (List ℕ) };
 
-    /// How often it has failed.
+    /// The number of its faults.
     ghost faults: { Self → ℕ };
 
-    /// Whether all that was written has been flushed since.
+    /// True if all that was written has been flushed since.
     ghost is_flushed: { Self → Bool };
 
     /// One write, which takes at least one byte, unless there is none.
@@ -55,7 +55,7 @@ pub trait Target {
         ensures rose { OnErr result (faults self.new ≡ min (faults self.old + 1) u64.MAX) };
 }
 
-/// Writes all the bytes; where that fails, a beginning of them.
+/// Writes all the bytes; if that fails, a beginning of them.
 pub fn give_all<W: Target>(device: &mut W, bytes: &[u8]) -> Result<(), Broken>
     ensures ok { OnOk result (Appends (W.contents device.old) (W.contents device.new) bytes.now) }
     ensures same { OnOk result (W.faults device.new ≡ W.faults device.old) }

@@ -19,7 +19,7 @@ use std::alloc::{AllocError, Global};
 use tab_term::Term;
 use thiserror::Error;
 
-/// Why a term was not encoded.
+/// The reason that a term was not encoded.
 #[derive(Clone, Copy, Debug, PartialEq, Eq, Error)]
 pub enum EncodeFault {
     /// The payload is over 4,294,967,295 bytes.
@@ -39,7 +39,7 @@ impl From<AllocError> for EncodeFault {
     }
 }
 
-/// A term that stands as it is.
+/// The outline of a term as it is.
 fn held(value: &Term) -> Outline<'_>
     ensures term { outline_term result ≡ term value.now }
     ensures short { IsShortOutline result }
@@ -52,7 +52,7 @@ fn held(value: &Term) -> Outline<'_>
     }
 }
 
-/// Writes these bytes and the spelling behind them; where that fails, a beginning of them.
+/// Writes these bytes and then the encoding; if that fails, a beginning of them.
 fn spell<W: Target>(device: &mut W, head: &[u8], outline: &Outline) -> Result<(), Broken>
     requires { OfOutline IsWritable outline.now }
     ensures ok { OnOk result
@@ -116,7 +116,7 @@ pub fn write_outline<W: Target>(device: &mut W, outline: &Outline) -> Result<(),
     Ok(())
 }
 
-/// Adds bytes and the spelling behind them, so many bytes together. On an error the bytes are as before.
+/// Appends bytes and then the encoding. It reserves `len` bytes first. On an error the bytes are as before.
 pub(crate) fn append(
     outline: &Outline,
     head: &[u8],
@@ -141,7 +141,7 @@ pub(crate) fn append(
     Ok(())
 }
 
-/// Adds the canonical spelling of a term. On an error the bytes are as before.
+/// Appends the canonical encoding of a term. On an error the bytes are as before.
 pub fn append_spelling(value: &Term, out: &mut Vec<u8>) -> Result<(), AllocError>
     ensures ok { OnOk result (out.new.items ≡ out.old.items ++ canon (term value.now)) }
     ensures err { OnErr result (out.new.items ≡ out.old.items) }
@@ -149,7 +149,7 @@ pub fn append_spelling(value: &Term, out: &mut Vec<u8>) -> Result<(), AllocError
     append(&held(value), &[], 0, out)
 }
 
-/// Adds the payload of a term: the byte 131 and the canonical spelling.
+/// Appends the payload of a term: the byte 131 and the canonical encoding.
 ///
 /// On an error the bytes are as before. `TooLong` goes before `NoMemory`.
 pub fn encode(value: &Term, out: &mut Vec<u8>) -> Result<(), EncodeFault>

@@ -21,7 +21,7 @@ const EVENT: &str = "mnesia_table_event";
 
 // ---- how long they are
 
-/// How many bytes the list of the events takes; `u64::MAX` stands for more.
+/// The length in bytes of the list of the events; `u64::MAX` if it is more.
 pub fn events_len(events: &EventTerms) -> u64
     ensures { result ≡ min (length (canon (list events.now))) u64.MAX }
 {
@@ -42,14 +42,14 @@ fn all_len(items: &[SharedEvent]) -> u64
     sum
 }
 
-/// How many bytes the event takes; `u64::MAX` stands for more.
+/// The length in bytes of the event; `u64::MAX` if it is more.
 pub fn event_len(event: &EventTerm) -> u64
     ensures { result ≡ min (length (canon (event_term event.now))) u64.MAX }
 {
     body_len(event).saturating_add(word_len(EVENT))
 }
 
-/// How many bytes `{Tag, What, Id}` takes, or `{Tag, Tab, What, Old, Id}`.
+/// The length in bytes of `{Tag, What, Id}`, or of `{Tag, Tab, What, Old, Id}`.
 fn body_len(event: &EventTerm) -> u64
     ensures { result ≡ min (length (canon (event_body event.now))) u64.MAX }
 {
@@ -62,7 +62,7 @@ fn body_len(event: &EventTerm) -> u64
     }
 }
 
-/// How many bytes the table and the records before take.
+/// The length in bytes of the table and the records before.
 fn detail_len(detail: &Detail) -> u64
     ensures { result
         ≡ min (length (canon (atom detail.now.table)) + length (canon (list detail.now.old)))
@@ -73,7 +73,7 @@ fn detail_len(detail: &Detail) -> u64
     ))
 }
 
-/// How many bytes `{tid, Age}` takes.
+/// The length in bytes of `{tid, Age}`.
 fn tid_len(age: u64) -> u64
     ensures { result ≡ min (length (canon (tid age))) u64.MAX }
 {
@@ -113,7 +113,7 @@ fn put_all<W: Target>(writer: &mut Writer<W>, items: &[SharedEvent])
     }
 }
 
-/// Writes the event, with the records before from where they stand.
+/// Writes the event. It reads the records before in place.
 pub fn put_event<W: Target>(writer: &mut Writer<W>, event: &EventTerm)
     requires { length (canon (event_term event.now)) ≤ 4294967295 }
     ensures { Writes W.contents W.faults writer.old writer.new (canon (event_term event.now)) }

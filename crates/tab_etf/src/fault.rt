@@ -1,4 +1,4 @@
-//! Why bytes are no term.
+//! Faults of bytes that are no term.
 
 ghost use Rattle.std.specs.Prelude.{◌≡◌};
 ghost use Rattle.tab_etf.specs.declared.fault.ReadError.TheVariants.{Memory};
@@ -6,7 +6,7 @@ ghost use Rattle.tab_etf.specs.declared.fault.ReadError.TheVariants.{Memory};
 use std::alloc::{AllocError, AllocFailed};
 use thiserror::Error;
 
-/// What is wrong with a payload: the first fault from left to right.
+/// A fault of a payload: the first from left to right.
 #[derive(Clone, Copy, Debug, PartialEq, Eq, Error)]
 pub enum Fault {
     /// The first byte isn't 131.
@@ -30,7 +30,7 @@ pub enum Fault {
     /// A list whose tail isn't the empty list.
     #[error("improper tail")]
     ImproperTail,
-    /// A key that is equal to an earlier one of the same map. It is told before the key's value is read.
+    /// A key that is equal to an earlier one of the same map. It is reported before a fault of the key's value.
     #[error("a key twice")]
     DuplicateKey,
     /// Bytes after the term.
@@ -38,14 +38,14 @@ pub enum Fault {
     Trailing,
 }
 
-/// A fault, and how many bytes are left from its place on.
+/// A fault, and the number of bytes left from its position on.
 #[derive(Clone, Copy, Debug, PartialEq, Eq)]
 pub struct Stop {
     pub fault: Fault,
     pub left: usize,
 }
 
-/// Why a payload wasn't decoded.
+/// The reason that a payload wasn't decoded.
 #[derive(Clone, Copy, Debug, PartialEq, Eq, Error)]
 pub enum EtfFault {
     #[error("no memory")]
@@ -55,7 +55,7 @@ pub enum EtfFault {
     At(Fault, usize),
 }
 
-/// Why a part of a payload wasn't read.
+/// The reason that a part of a payload wasn't read.
 #[derive(Debug, Drop)]
 pub enum ReadError {
     Memory,

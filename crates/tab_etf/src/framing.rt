@@ -8,7 +8,7 @@ use crate::device::Broken;
 use std::alloc::{AllocError, AllocFailed, Global};
 use thiserror::Error;
 
-/// What stands in one frame.
+/// The contents of a frame.
 #[derive(Debug, Drop)]
 pub enum Frame {
     /// A payload of no bytes.
@@ -17,11 +17,11 @@ pub enum Frame {
     Payload(Vec<u8>),
 }
 
-/// Why a frame was not read or written.
+/// The reason that a frame was not read or written.
 #[derive(Clone, Copy, Debug, PartialEq, Eq, Error)]
 pub enum FrameFault {
-    /// The length of a payload that is too long: over 1,048,576 bytes at reading. At writing, where a
-    /// length of four bytes can't tell it, it is `u32::MAX`.
+    /// The length of a payload that is too long: over 1,048,576 bytes at reading. At writing it is `u32::MAX` for a
+    /// length that does not fit four bytes.
     #[error("a frame of {0} bytes")]
     FrameTooLong(u32),
     /// The stream ends inside a frame.

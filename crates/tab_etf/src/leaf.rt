@@ -22,7 +22,7 @@ pub fn stop(fault: Fault, left: usize) -> ReadError
     ReadError::At(Stop { fault, left })
 }
 
-/// The next byte, and what is behind it.
+/// The next byte, and the bytes after it.
 pub fn u8_at(bytes: &[u8]) -> Result<(u8, &[u8]), ReadError>
     ensures { Gives (λ x. (x.0, x.1.now)) result (byte_at bytes.now) }
 {
@@ -42,7 +42,7 @@ fn u16_at(bytes: &[u8]) -> Result<(u16, &[u8]), ReadError>
     Ok((u16::from_be_bytes([front[0], front[1]]), rest))
 }
 
-/// The next four bytes as a number, the highest first, and what is behind them.
+/// The next four bytes as a number, the highest first, and the bytes after them.
 pub fn u32_at(bytes: &[u8]) -> Result<(u32, &[u8]), ReadError>
     ensures { Gives (λ x. (x.0, x.1.now)) result (number_at w32 bytes.now) }
 {
@@ -276,7 +276,7 @@ fn binary_of(alloc: Global, bytes: &[u8]) -> Result<(Term, &[u8]), ReadError>
     ))
 }
 
-/// What stands behind the tag of a term without elements.
+/// Reads the part after the tag of a term without elements.
 #[tactic(auto, unfolding(crate::specs::Reading::leaf))]
 pub fn leaf_of(
     alloc: Global,

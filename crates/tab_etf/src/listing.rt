@@ -19,15 +19,16 @@ use std::alloc::AllocError;
 use tab_lists::SharedTerms;
 use tab_term::spelling::{LIST_EXT, NIL_EXT, STRING_EXT, is_byte_term};
 
-/// What is known of a list behind a walk of it.
+/// The tag and the count of a list after a walk of it.
 #[derive(Clone, Copy)]
 struct Found {
     tag: u8,
-    /// How many elements there are, which four bytes tell.
+    /// The number of elements, which fits four bytes.
     count: usize,
 }
 
-/// Writes the elements, until the device has more than so many bytes. None too where there are more than a count of four bytes tells.
+/// Writes the elements, until the device has more than `most` bytes. It returns None then, and if the count of elements
+/// does not fit four bytes.
 fn put_within(writer: &mut Writer<Counted<Vec<u8>>>, ts: &SharedTerms, most: usize) -> Option<Found>
     ensures found { IfSome result (λ found. IsCounted found ts.now) }
     ensures all { IfSome result (λ _. Writes held faults_of writer.old writer.new (canons ts.now)) }
@@ -109,7 +110,7 @@ pub fn put_number(out: &mut Vec<u8>, at: usize, n: u32)
     out[at..at + 4].copy_from_slice(&n.to_be_bytes());
 }
 
-/// Adds the canonical spelling of a list that is empty or a string. On an error the bytes are as before.
+/// Appends the canonical encoding of a list that is empty or a string. On an error the bytes are as before.
 fn append_short(ts: &SharedTerms, found: Found, out: &mut Vec<u8>) -> Result<(), AllocError>
     requires found { IsCounted found ts.now }
     requires short { found.tag ≢ 108 }
@@ -128,9 +129,10 @@ fn append_short(ts: &SharedTerms, found: Found, out: &mut Vec<u8>) -> Result<(),
     append(&alone(Leaf::SharedList(ts, measure)), &[], 0, out)
 }
 
-/// Adds the canonical spelling of a list, if there are about so many bytes then at most. On false and on an error they are as before.
+/// Appends the canonical encoding of a list, if the bytes are then at most about `most`. On false and on an error they
+/// are as before.
 ///
-/// It goes over the list once, and once more where that is written as a string.
+/// It walks the list once, and once more if the list is written as a string.
 pub fn append_list(ts: &SharedTerms, most: usize, out: &mut Vec<u8>) -> Result<bool, AllocError>
     ensures ok { IfOk result
         (λ within. out.new.items ≡ out.old.items ++ (if within then canon (list ts.now) else [])) }
@@ -161,7 +163,7 @@ pub fn append_list(ts: &SharedTerms, most: usize, out: &mut Vec<u8>) -> Result<b
     }
 }
 
-/// One part alone.
+/// An outline of one part.
 pub fn alone<'a>(leaf: Leaf<'a>) -> Outline<'a>
     ensures { result ≡ record { first = None; second = None; body = One leaf.entry } }
 {

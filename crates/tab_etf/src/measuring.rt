@@ -1,4 +1,4 @@
-//! How long the canonical spelling of a term is.
+//! The length of the canonical encoding of a term.
 
 ghost use Rattle.std.specs.Prelude.{◌≡◌, ◌<◌, ◌≤◌, ◌+◌, ◌^◌, ◌∷◌, min, length, MatchOption, unsigned_abs};
 ghost use Rattle.tab_term.specs.Canon.{int_tag, int_contents, magnitude, length_field, atom_tag, atom_length_field, tuple_tag, arity_field, canon, canons, pair_canons};
@@ -10,10 +10,10 @@ use tab_term::spelling::{
 };
 use tab_term::{Term, Terms};
 
-/// The longest payload that a length of four bytes can tell.
+/// The longest payload whose length fits four bytes.
 pub const LONGEST: u64 = 0xffff_ffff;
 
-/// How many bytes an integer takes, its tag too.
+/// The length in bytes of an integer with its tag.
 #[tactic(auto, using(crate::proofs::Lengths::one_long, crate::proofs::Lengths::four_long, crate::proofs::Lengths::big_long))]
 pub fn int_len(z: i128) -> u64
     ensures value { result ≡ length (int_tag z ∷ int_contents z) }
@@ -36,7 +36,7 @@ fn big_len(z: i128) -> u64
     significant_of(&bytes).len() as u64 + 3
 }
 
-/// How many bytes a count of elements takes.
+/// The length in bytes of a count of elements.
 #[tactic(auto, using(crate::proofs::Lengths::field_short, crate::proofs::Lengths::field_long))]
 pub fn field_len(n: usize) -> u64
     ensures value { result ≡ length (length_field n) }
@@ -45,7 +45,7 @@ pub fn field_len(n: usize) -> u64
     if n < 0xffff_ffff { 4 } else { 12 }
 }
 
-/// How many bytes an atom of so many bytes of text takes.
+/// The length in bytes of an atom whose text has `n` bytes.
 #[tactic(auto, using(crate::proofs::Lengths::atom_short, crate::proofs::Lengths::atom_long))]
 pub fn atom_len(n: usize) -> u64
     requires { n < 2 ^ 16 }
@@ -62,7 +62,7 @@ fn arity_len(n: usize) -> u64
     if n < 256 { 1 } else { field_len(n) }
 }
 
-/// How long the canonical spelling is; `u64::MAX` stands for more.
+/// The length of the canonical encoding; `u64::MAX` if it is more.
 #[cycle(len)]
 #[tactic(auto, using(crate::proofs::Lengths::int_length, crate::proofs::Lengths::atom_length, crate::proofs::Lengths::tuple_length, crate::proofs::Lengths::bin_length, crate::proofs::Lengths::map_length))]
 pub fn spelled_len(t: &Term) -> u64
@@ -87,7 +87,7 @@ pub fn spelled_len(t: &Term) -> u64
     }
 }
 
-/// How many bytes a list takes; `u64::MAX` where it is more.
+/// The length in bytes of a list; `u64::MAX` if it is more.
 #[cycle(len)]
 #[tactic(auto, using(crate::proofs::Lengths::empty_length, crate::proofs::Lengths::bytes_length, crate::proofs::Lengths::others_length))]
 pub fn list_len(ts: &Terms) -> u64
@@ -127,7 +127,7 @@ fn pairs_len(ps: &[(Term, Term)]) -> u64
     sum
 }
 
-/// How long a term's payload is: the byte 131 and the canonical spelling. None where it passes 4,294,967,295 bytes.
+/// The length of a term's payload: the byte 131 and the canonical encoding. None if it is over 4,294,967,295 bytes.
 pub fn encoded_len(value: &Term) -> Option<u64>
     ensures { MatchOption result (4294967295 < length (131 ∷ canon (term value.now)))
         (λ n. (n ≡ length (131 ∷ canon (term value.now))) × (n ≤ 4294967295)) }

@@ -71,7 +71,7 @@ impl<'a> Leaf<'a> {
     }
 }
 
-/// One part alone, or a tuple of parts.
+/// One part, or a tuple of parts.
 #[derive(Clone, Copy)]
 pub enum Body<'a> {
     One(Leaf<'a>),
@@ -80,7 +80,7 @@ pub enum Body<'a> {
     Four(Leaf<'a>, Leaf<'a>, Leaf<'a>, Leaf<'a>),
 }
 
-/// A body, where it is named in a pair with the second part, and that in a pair with the first: `{first, {second, body}}`.
+/// A body, possibly in a pair with the second part, and that in a pair with the first: `{first, {second, body}}`.
 #[derive(Clone, Copy)]
 pub struct Outline<'a> {
     pub first: Option<Leaf<'a>>,
@@ -144,7 +144,7 @@ fn put_body<W: Target>(writer: &mut Writer<W>, body: &Body)
     }
 }
 
-/// Writes the canonical spelling.
+/// Writes the canonical encoding.
 #[tactic(auto, using(crate::proofs::OutlinesLemmas::writes_outline))]
 pub fn put_outline<W: Target>(writer: &mut Writer<W>, outline: &Outline)
     requires { OfOutline IsWritable outline.now }
@@ -202,7 +202,7 @@ fn body_len(body: &Body) -> u64
     }
 }
 
-/// How long the payload is: the byte 131 and the canonical spelling. None where it passes 4,294,967,295 bytes.
+/// The length of the payload: the byte 131 and the canonical encoding. None if it is over 4,294,967,295 bytes.
 #[tactic(auto, using(crate::proofs::OutlinesLemmas::outline_length))]
 pub fn outline_len(outline: &Outline) -> Option<u64>
     requires { IsShortOutline outline.now }

@@ -10,7 +10,7 @@ use crate::framing::{Frame, FrameFault};
 use crate::splitting::LIMIT;
 use std::alloc::Global;
 
-/// How many bytes of a payload are read at once.
+/// The most bytes of a payload that are read at once.
 const CHUNK: usize = 4096;
 
 /// Reads until the buffer is full or the stream ends, and returns how many bytes came.
@@ -45,7 +45,7 @@ fn keep(kept: &mut Vec<u8>, lost: bool, bytes: &[u8]) -> bool
     kept.extend_from_slice(bytes).is_err()
 }
 
-/// Reads a payload of so many bytes. Its buffer grows as they come, and where it can't, they are read over.
+/// Reads a payload of `count` bytes. Its buffer grows as they come; if it can't, the other bytes are read and dropped.
 fn read_payload<R: Source>(alloc: Global, reader: &mut R, count: usize) -> Result<Frame, FrameFault>
     ensures payload { ReadsPayload (R.remaining reader.old) (R.remaining reader.new) count result }
     ensures told { IfOk result IsTold }
@@ -70,10 +70,10 @@ fn read_payload<R: Source>(alloc: Global, reader: &mut R, count: usize) -> Resul
     Ok(Frame::from_vec(payload))
 }
 
-/// The next frame of a reader; None where the stream ends before it.
+/// Reads the next frame; None if the stream ends before it.
 ///
-/// Of a frame over 1,048,576 bytes only the length is read. At `NoMemory` its payload was read over, so
-/// that the next frame can be read. A stream that ends inside a frame is `CutOff`.
+/// Of a frame over 1,048,576 bytes only the length is read. At `NoMemory` its payload was read and dropped, so that the
+/// next frame can be read. A stream that ends inside a frame is `CutOff`.
 pub fn read_frame<R: Source>(alloc: Global, reader: &mut R) -> Result<Option<Frame>, FrameFault>
     ensures frame { ReadsFrame (R.remaining reader.old) (R.remaining reader.new) result }
     ensures told { IfOk result (λ frame. IfSome frame IsTold) }

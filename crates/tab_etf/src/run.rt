@@ -19,7 +19,7 @@ use std::alloc::{AllocError, Global};
 use std::cmp::Ordering;
 use tab_term::{Pairs, Term};
 
-/// A key: where its spelling stands, how many bytes were left from its tag on, and the number of its pair.
+/// A key: the start and end of its encoding, the number of bytes left from its tag on, and the number of its pair.
 #[derive(Clone, Copy)]
 pub struct Key {
     start: usize,
@@ -28,9 +28,10 @@ pub struct Key {
     pair: usize,
 }
 
-/// What was read of a map. The keys' spellings stand one behind the other, in the order of the keys.
+/// The pairs of a map that were read. The keys' encodings are adjacent, in the order of the keys.
 ///
-/// Keys are compared by these, and not as terms: there a long list is walked to its end before its first byte is known.
+/// Keys are compared by these, and not as terms: a long list of terms is walked to its end before its first byte is
+/// known.
 #[derive(Drop)]
 pub struct Run {
     pairs: Vec<(Term, Term)>,
@@ -127,7 +128,7 @@ fn earlier_of(found: Option<Key>, key: Key) -> Key
     }
 }
 
-/// Of these sorted keys, the first that was read when it stood there already.
+/// Returns the first key that was read twice, of these sorted keys.
 fn first_twice(spelled: &[u8], keys: &[Key]) -> Option<Key>
     ensures { IsFirstTwice spelled.now keys.now (length keys.now) result }
 {
@@ -152,7 +153,7 @@ fn ranks_of(alloc: Global, keys: &[Key]) -> Result<Vec<usize>, AllocError>
     Ok(ranks)
 }
 
-/// Exchanges the pairs until each stands at its rank. Each exchange brings one there.
+/// Exchanges the pairs until each is at its rank. Each exchange brings one there.
 fn arrange(pairs: &mut [(Term, Term)], ranks: &mut [usize])
     requires len { length ranks.old ≡ length pairs.old }
     requires ranks { AreRanked ranks.old }
@@ -184,7 +185,7 @@ fn in_order(alloc: Global, pairs: Vec<(Term, Term)>, keys: &[Key]) -> Result<Pai
     Ok(Pairs::from_vec(pairs))
 }
 
-/// Sorts the keys, and finds the first that was read when it stood there already.
+/// Sorts the keys, and returns the first that was read twice.
 fn sort_and_find(spelled: &[u8], keys: &mut [Key]) -> Option<Key>
     ensures permutation { IsPermutation keys.old keys.new }
     ensures sorted { IsSortedBy (λ k l. is_lt (key_order spelled.now k l)) keys.new }
@@ -194,7 +195,7 @@ fn sort_and_find(spelled: &[u8], keys: &mut [Key]) -> Option<Key>
     first_twice(spelled, keys)
 }
 
-/// The pairs in ascending order of their keys, unless one key stands there twice.
+/// The pairs in ascending order of their keys, unless one key is there twice.
 fn ordered(alloc: Global, run: Run) -> Result<Pairs, ReadError>
     requires { (es : List Entry) × Holds run es }
     ensures { (es : List Entry) → Holds run es
@@ -211,7 +212,8 @@ fn ordered(alloc: Global, run: Run) -> Result<Pairs, ReadError>
     Ok(in_order(alloc, pairs, &keys)?)
 }
 
-/// A key that stands there twice goes before the fault that the reading came to, since it was told before its value was read.
+/// Returns the fault of a key twice, if there is one, else the one at which the reading stopped. The key was read
+/// before that fault.
 fn earlier_stop(found: Option<Key>, at: Stop) -> Stop
     ensures { result ≡ first_stop found at }
 {
@@ -224,7 +226,7 @@ fn earlier_stop(found: Option<Key>, at: Stop) -> Stop
     }
 }
 
-/// The first fault, where the reading came to this one.
+/// The first fault, if the reading stopped at this one.
 fn first_fault(run: Run, at: Stop) -> Stop
     ensures { (es : List Entry) → AreNoted run.spelled.items run.keys.items es
         → IsFirstFault es at result }
@@ -237,7 +239,7 @@ fn first_fault(run: Run, at: Stop) -> Stop
     earlier_stop(sort_and_find(&spelled, &mut keys), at)
 }
 
-/// The first fault, where the reading ended with this error. Without memory there is none to be told.
+/// The first fault, if the reading ended with this error. Without memory there is none to report.
 fn first_error(run: Run, error: ReadError) -> ReadError
     ensures { (answer : Result (PlainPairs × List ℕ) Stop)
         → Ran (λ (x : List ℕ). x) run (Err error) answer → Fails result answer }
@@ -248,7 +250,7 @@ fn first_error(run: Run, error: ReadError) -> ReadError
     }
 }
 
-/// The pairs that were read and the bytes behind them, or the first fault.
+/// The pairs that were read and the bytes after them, or the first fault.
 pub fn settled(
     alloc: Global,
     run: Run,

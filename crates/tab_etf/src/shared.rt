@@ -14,13 +14,13 @@ use crate::writer::Writer;
 use tab_lists::SharedTerms;
 use tab_term::spelling::{LIST_EXT, NIL_EXT, STRING_EXT, is_byte_term};
 
-/// What is written of a list before its elements, and how long they are.
+/// The head of a list, and the length of its elements.
 #[derive(Clone, Copy)]
 pub struct Measure {
     pub tag: u8,
-    /// How many elements there are; `usize::MAX` stands for more.
+    /// The number of elements; `usize::MAX` if there are more.
     pub count: usize,
-    /// How many bytes they take; `u64::MAX` stands for more.
+    /// Their length in bytes; `u64::MAX` if it is more.
     pub len: u64,
 }
 
@@ -103,7 +103,7 @@ pub fn put_shared<W: Target>(writer: &mut Writer<W>, ts: &SharedTerms, measure: 
     }
 }
 
-/// How long the canonical spelling of a list with this measure is; `u64::MAX` stands for more.
+/// The length of the canonical encoding of a list with this measure; `u64::MAX` if it is more.
 #[tactic(auto, using(crate::proofs::Lengths::empty_length, crate::proofs::Lengths::bytes_length))]
 pub fn shared_len(ts: &SharedTerms, measure: Measure) -> u64
     requires { IsMeasure measure ts.now }

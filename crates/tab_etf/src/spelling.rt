@@ -1,4 +1,4 @@
-//! The canonical spelling of a term, piece by piece.
+//! The canonical encoding of a term, piece by piece.
 
 ghost use Rattle.std.specs.Prelude.{◌≡◌, ◌<◌, ◌+◌, ◌^◌, ◌++◌, ◌∷◌, [], List, ℕ, length, IsTrue, unsigned_abs};
 ghost use Rattle.tab_term.specs.Canon.{is_byte as is_byte_of, int_tag, int_contents, sign_of, magnitude, length_field, atom_tag, atom_length_field, tuple_tag, arity_field, is_byte_term, byte_of, all_bytes, bytes_of, list_tag as list_tag_of, list_contents, canon, canons, pair_canons};
@@ -61,7 +61,7 @@ fn put_digits<W: Target>(writer: &mut Writer<W>, sign: u8, digits: &[u8])
     writer.put(digits);
 }
 
-// Inlined, it would make the spelling of a short number save registers for it.
+// Inlined, it would make the encoding of a short number save registers for it.
 #[inline(never)]
 #[tactic(auto, using(crate::proofs::WritingLemmas::writes_then))]
 fn put_big<W: Target>(writer: &mut Writer<W>, z: i128)
@@ -222,7 +222,7 @@ fn put_tuple<W: Target>(writer: &mut Writer<W>, ts: &Terms)
     put_all(writer, items);
 }
 
-/// Writes a list: one of bytes as a string, where it is short enough, as Erlang does.
+/// Writes a list. A list of bytes is written as a string if it is short enough, as Erlang does.
 #[cycle(put)]
 #[tactic(auto, using(crate::proofs::WritingLemmas::writes_then))]
 pub fn put_list<W: Target>(writer: &mut Writer<W>, ts: &Terms)

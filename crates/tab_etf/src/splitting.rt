@@ -15,7 +15,7 @@ use std::marker::Model;
 /// The longest payload that is read, in bytes.
 pub const LIMIT: u32 = 1_048_576;
 
-/// What stands at the front of a stream.
+/// The front of a stream.
 #[derive(Clone, Copy)]
 enum Front {
     /// A beginning of a frame, or nothing.
@@ -26,7 +26,7 @@ enum Front {
     Whole(usize),
 }
 
-/// The length that a frame begins with; None where fewer than four bytes are there.
+/// The length that a frame begins with; None if there are fewer than four bytes.
 #[tactic(auto, unfolding(crate::specs::Frames::length_next))]
 pub fn length_at(bytes: &[u8]) -> Option<u32>
     ensures value { result ≡ length_next bytes.now }
@@ -53,7 +53,7 @@ fn front_of(bytes: &[u8]) -> Front
     Front::Whole(count as usize)
 }
 
-/// The whole frames at the front, how many bytes they take, and whether a length over the limit stands next.
+/// The whole frames at the front, their length in bytes, and the length over the limit that comes next, if one does.
 #[derive(Drop)]
 struct Parts {
     frames: Vec<Frame>,
@@ -93,7 +93,7 @@ fn split(alloc: Global, bytes: &[u8]) -> Result<Parts, AllocError>
     }
 }
 
-/// The whole frames that stood at the front, and whether a length over the limit stands next.
+/// The whole frames from the front, and the length over the limit that comes next, if one does.
 #[derive(Drop)]
 struct Found {
     frames: Vec<Frame>,
@@ -118,9 +118,10 @@ fn cut(alloc: Global, bytes: &mut Vec<u8>) -> Result<Found, AllocError>
     Ok(Found { frames, over })
 }
 
-/// Takes the whole frames from the front of a rest and the piece behind it. An `Err` leaves the rest as it was.
+/// Takes the whole frames from the front of the remaining bytes followed by the piece. An `Err` leaves the remaining
+/// bytes as they were.
 ///
-/// Where nothing is left of the pieces before, as between two requests, this one is not copied.
+/// If none remain of the pieces before, as between two requests, this one is not copied.
 fn cut_with(alloc: Global, rest: &mut Vec<u8>, piece: &[u8]) -> Result<Found, AllocError>
     ensures stream { IfOk result
         (λ x. GoesOn (rest.old.items ++ piece.now) (contents x.frames.items) rest.new.items) }
@@ -142,7 +143,7 @@ fn cut_with(alloc: Global, rest: &mut Vec<u8>, piece: &[u8]) -> Result<Found, Al
     found
 }
 
-/// Takes the whole frames from the front of a piece with nothing before it, and keeps its rest.
+/// Takes the whole frames from the front of a piece with nothing before it, and keeps the remaining bytes.
 fn cut_alone(alloc: Global, rest: &mut Vec<u8>, piece: &[u8]) -> Result<Found, AllocError>
     ensures stream { IfOk result
         (λ x. GoesOn piece.now (contents x.frames.items) rest.new.items) }
@@ -195,11 +196,11 @@ impl Splitter {
         }
     }
 
-    /// Takes the next piece of the stream, and gives the frames that are whole now.
+    /// Takes the next piece of the stream, and returns the frames that are whole now.
     ///
-    /// At a length over the limit it answers `FrameTooLong` with that length, then and at each later
-    /// call; `before_fault` gives the frames that stood before it in the same piece. `NoMemory`
-    /// changes nothing: the same piece may be fed again.
+    /// At a length over the limit it returns `FrameTooLong` with that length, then and at each later call;
+    /// `before_fault` returns the frames before it in the same piece. `NoMemory` changes nothing: the same piece may be
+    /// fed again.
     #[tactic(auto, using(crate::proofs::Cuts::stops_over))]
     pub fn feed(&mut self, piece: &[u8]) -> Result<Vec<Frame>, FrameFault>
         ensures ok { IfOk result
@@ -229,7 +230,7 @@ impl Splitter {
         &self.before
     }
 
-    /// Whether the stream may end here: `CutOff` where it ends inside a frame, or after a length over the limit.
+    /// Checks that the stream may end here: `CutOff` if it ends inside a frame, or after a length over the limit.
     pub fn finish(&self) -> Result<(), FrameFault>
         ensures found { self.now.over ≡ None → payloads self.now.rest ≡ [] }
         ensures ok { OnOk result ((self.now.over ≡ None) × (rest_of self.now.rest ≡ [])) }
@@ -243,7 +244,7 @@ impl Splitter {
     }
 }
 
-/// Whether a stream may end with this rest.
+/// Checks that a stream may end with these remaining bytes.
 #[tactic(auto, using(crate::proofs::Cuts::finished, crate::proofs::Cuts::not_empty_rest, crate::proofs::Cuts::empty_rest))]
 fn end_of(rest: &[u8]) -> Result<(), FrameFault>
     requires { front rest.now ≡ None }
@@ -257,7 +258,7 @@ fn end_of(rest: &[u8]) -> Result<(), FrameFault>
     }
 }
 
-/// What the payloads of a stream are: those of its first frames, up to where no whole frame stands.
+/// A law: the payloads of a stream are those of its first frames, up to the first that is not whole.
 pub fn payloads_are_framed()
     ensures first { (bytes : List ℕ) → All (λ b. b < 256) bytes → AreFirstFrames bytes }
     ensures only { (ps : List (List ℕ)) (rest : List ℕ) → AreWithin ps

@@ -19,16 +19,16 @@ use tab_lists::{Answer, Answers, SharedTerms};
 use tab_term::Term;
 use tab_term::spelling::{LIST_EXT, NIL_EXT, SMALL_TUPLE_EXT};
 
-/// So many bytes are made room for at the beginning of a frame, so that a short one is one allocation.
+/// The room that a frame reserves at its beginning, so that a short one is one allocation.
 const ROOM: usize = 512;
 
-/// The spelling of `ok`.
+/// The encoding of `ok`.
 const OK: &[u8] = b"w\x02ok";
 
-/// The spelling of `{atomic, Value}` before the value.
+/// The encoding of `{atomic, Value}` before the value.
 const ATOMIC: &[u8] = b"h\x02w\x06atomic";
 
-/// What is appended without being measured before.
+/// A value that is appended and not measured before.
 #[derive(Clone, Copy)]
 pub enum Unmeasured<'a> {
     /// A list of these elements.
@@ -52,8 +52,8 @@ fn append_aborted(reason: &Term, out: &mut Vec<u8>) -> Result<(), AllocError>
     append(&aborted, &[], 0, out)
 }
 
-// Each of these adds the canonical spelling, if there are about so many bytes then at most. On false and on an error a beginning of it
-// may be added.
+// Each of these appends the canonical encoding, if the bytes are then at most about `most`. On false and on an error a
+// beginning of it may be appended.
 
 #[cycle(append)]
 fn append_answers(answers: &Answers, most: usize, out: &mut Vec<u8>) -> Result<bool, AllocError>
@@ -142,9 +142,10 @@ fn append_value(value: &Unmeasured, most: usize, out: &mut Vec<u8>) -> Result<bo
     }
 }
 
-/// Adds the frame of `{First, Value}`, where it takes no more than so many bytes, in one walk of each list.
+/// Appends the frame of `{First, Value}` if it takes at most `most` bytes, in one walk of each list.
 ///
-/// On false and on an error the bytes are as before. A list counts with each of its elements, also one that is written as a string.
+/// On false and on an error the bytes are as before. A list counts with each of its elements, also one that is written
+/// as a string.
 pub fn append_pair_within(
     first: &Leaf,
     value: &Unmeasured,

@@ -6,7 +6,7 @@ ghost use Rattle.tab_etf.specs.Writing.{Hands, Writes, output};
 use crate::device::{Target, give_all};
 use arrayvec::ArrayVec;
 
-/// How many bytes wait at most.
+/// The most bytes that the buffer takes.
 const ROOM: usize = 512;
 
 /// Writes bytes to a device that has not failed, and returns whether it has failed then.
@@ -48,14 +48,14 @@ impl<'a, W: Target> Writer<'a, W> {
         }
     }
 
-    /// Whether a write has failed: then nothing is written any more.
+    /// Returns whether a write has failed: then nothing is written any more.
     pub fn has_failed(&self) -> bool
         ensures { result ≡ self.now.failed }
     {
         self.failed
     }
 
-    /// The device, which has the bytes that were handed over.
+    /// The device, which has the bytes that were written out.
     pub fn device(&self) -> &W
         ensures { result.now ≡ self.now.device.now }
     {
@@ -71,7 +71,7 @@ impl<'a, W: Target> Writer<'a, W> {
         self.bytes.clear();
     }
 
-    /// Adds bytes to those that wait, or hands over. It stands where it is called, so that a few bytes whose number is known there
+    /// Adds bytes to the buffer, or writes it out. It is inlined, so that a few bytes whose number is known at the call
     /// are stored and not copied in a loop.
     #[inline(always)]
     pub fn put(&mut self, bytes: &[u8])
@@ -82,7 +82,7 @@ impl<'a, W: Target> Writer<'a, W> {
         }
     }
 
-    // The same where the bytes that wait leave no room.
+    // The same if the buffer has no room.
     #[inline(never)]
     fn put_beyond(&mut self, bytes: &[u8])
         ensures { Writes W.contents W.faults self.old self.new bytes.now }

@@ -1,4 +1,4 @@
-//! The markers that begin and end what a subscriber is told.
+//! The markers that begin and end a subscription's events.
 
 ghost use Rattle.std.specs.Prelude.{◌≡◌, option_map};
 ghost use Rattle.std.specs.List.{list_all};

@@ -1,4 +1,4 @@
-//! A table's records as its events tell them.
+//! A table's records, rebuilt from its events.
 
 ghost use Rattle.std.specs.Prelude.{◌≡◌, [], IfOk, OnErr, None, option_map};
 ghost use Rattle.std.specs.Option.{option_copied};
@@ -17,7 +17,7 @@ use tab_model::{Change, Kind};
 use tab_rows::Rows;
 use tab_term::{Atom, Term};
 
-/// A table as a subscriber with a dump is told it: the records of the begin marker, and the events since.
+/// A table as a subscriber with a dump sees it: the records of the begin marker, and the events since.
 ///
 /// A batch is fed by its events, one by one.
 pub struct Mirror {
@@ -74,8 +74,8 @@ impl Mirror {
         self.rows.as_ref()
     }
 
-    /// Takes in what the subscriber was told. Marks without a dump and terms of other tables are Other, and change
-    /// nothing.
+    /// Applies a term that the subscriber received. Marks without a dump and terms of other tables are Other, and
+    /// change nothing.
     pub fn feed(&mut self, alloc: Global, told: &Term) -> Result<Mirrored, AllocError>
         ensures table { (self.new.table ≡ self.old.table) × (self.new.kind ≡ self.old.kind) }
         ensures ok { IfOk result

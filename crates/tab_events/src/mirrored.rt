@@ -1,6 +1,6 @@
 //! What a term was to a mirror.
 
-/// What a term was to a mirror.
+/// The effect of a term on a mirror.
 #[derive(Clone, Copy, Debug, PartialEq, Eq)]
 pub enum Mirrored {
     /// A dump marker of its table, whose records it has now.

@@ -1,4 +1,4 @@
-//! The changes that terms of events tell.
+//! The changes in the terms of events.
 
 ghost use Rattle.std.specs.Prelude.{◌≡◌, IfOk};
 ghost use Rattle.std.specs.Str.{bytes_eq};
@@ -127,7 +127,7 @@ fn object_deleted(alloc: Global, row: &Term) -> Result<Option<Change>, AllocErro
     Ok(Some(Change::DeleteObject(row.try_clone(alloc)?)))
 }
 
-/// Of `{Tab, Key}`.
+/// The deletion of a key, if the term is `{Tab, Key}`.
 fn key_deleted(alloc: Global, what: &Term) -> Result<Option<Change>, AllocError>
     ensures { IfOk result (λ c. c ≡ key_deleted_of (term what.now)) }
 {
@@ -143,7 +143,7 @@ fn key_deleted(alloc: Global, what: &Term) -> Result<Option<Change>, AllocError>
     }
 }
 
-/// Of `{Tab, Key}` or of a record, which has an arity above 2.
+/// The deletion of a key by `{Tab, Key}`, or of a record, which has an arity above 2.
 fn deleted(alloc: Global, what: &Term) -> Result<Option<Change>, AllocError>
     ensures { IfOk result (λ c. c ≡ deleted_of (term what.now)) }
 {
@@ -153,7 +153,7 @@ fn deleted(alloc: Global, what: &Term) -> Result<Option<Change>, AllocError>
     }
 }
 
-/// The change, where it is one of the table.
+/// The change, if it is one of the table.
 pub fn in_table(table: &Atom, change: Option<Change>) -> Option<Change>
     ensures { result ≡ in_table_of table.now change }
 {

@@ -59,7 +59,7 @@ impl<'a> Pair<'a> {
         }
     }
 
-    /// By the values, which are compared only where their numbers tie.
+    /// By the values, which are compared only if their numbers tie.
     fn order(&self, other: &Pair<'_>) -> Ordering
         ensures { result ≡ value_cmp self.now other.now }
     {
@@ -151,8 +151,8 @@ fn grouped(
     Ok(entries)
 }
 
-// Adds a pair whose value is not below the last entry's: its key to that entry, or an entry after that. Where the key is there,
-// it is counted.
+// Adds a pair whose value is not below the last entry's: its key to that entry, or an entry after that. If the key is
+// there, it is counted.
 fn add_pair(
     entries: &mut Vec<(Term, Set<Term>)>,
     alloc: Global,

@@ -16,7 +16,7 @@ pub fn nil(alloc: Global) -> Term
     Term::List(Terms::from_vec(Vec::new(alloc)))
 }
 
-/// The element of the record at the position; where it has none, `nil`.
+/// The element of the record at the position; if it has none, `nil`.
 pub fn element<'a>(row: &'a Term, position: u64, nil: &'a Term) -> &'a Term
     requires { term nil.now ≡ list_of no_terms }
     ensures { term result.now ≡ element_of position (term row.now) }
@@ -30,7 +30,7 @@ pub fn element<'a>(row: &'a Term, position: u64, nil: &'a Term) -> &'a Term
     }
 }
 
-/// The key of the record; where it has none, `nil`.
+/// The key of the record; if it has none, `nil`.
 pub fn key<'a>(row: &'a Term, nil: &'a Term) -> &'a Term
     requires { term nil.now ≡ list_of no_terms }
     ensures { term result.now ≡ key_of_row (term row.now) }

@@ -1,4 +1,4 @@
-//! Of each key and value, how many records there are beside the first.
+//! The number of records of each key and value after the first.
 
 ghost use Rattle.std.specs.Prelude.{◌≡◌, ◌<◌, ◌+◌, ◌↔◌, [], IfOk, OnOk, IsTrue};
 ghost use Rattle.tab_term.specs.Order.{term_cmp};
@@ -10,8 +10,8 @@ use std::alloc::{AllocError, Global};
 use tab_map::Map;
 use tab_term::Term;
 
-/// How many further records of a key have a value, beside the first that has it. A key none of whose records share a value
-/// has no entry, so a set's index keeps nothing here.
+/// The number of further records of a key that have a value, after the first that has it. A key none of whose records
+/// share a value has no entry, so a set's index keeps nothing here.
 pub struct Further {
     by_key: Map<Term, Map<Term, u64>>,
 }
@@ -98,7 +98,7 @@ impl Further {
     }
 }
 
-// The count at the value, 0 where there is none.
+// The count at the value, 0 if there is none.
 fn count_in(counts: &Map<Term, u64>, value: &Term) -> u64
     ensures count { result ≡ count_of (lookup term_cmp value.now counts.now) }
     ensures ascends { Ascends term_cmp counts.now }

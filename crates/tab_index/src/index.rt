@@ -24,8 +24,8 @@ use tab_records::Iter;
 use tab_rows::{Form, Rows, Update};
 use tab_term::Term;
 
-/// An index at a position: each value with the keys of the records that have it there. Of several records of a key that have
-/// one value it counts those beside the first, so that a deletion of one looks at no other.
+/// An index at a position: each value with the keys of the records that have it there. If several records of a key have
+/// one value, it counts those after the first, so that a deletion of one looks at no other.
 pub struct Index {
     pub position: u64,
     keys: Map<Term, Set<Term>>,
@@ -181,7 +181,7 @@ impl Index {
         self.put(alloc, keys, value, key)
     }
 
-    // Whether there is one record, and it has the value.
+    // Returns whether there is one record, and it has the value.
     fn has_only(&self, mut records: Iter<'_>, value: &Term, nil: &Term) -> bool
         requires { term nil.now ≡ list_of no_terms }
         ensures { IsTrue result
@@ -196,7 +196,7 @@ impl Index {
         }
     }
 
-    // A bag's write. Where an equal record is there, it changes nothing.
+    // A bag's write. If an equal record is there, it changes nothing.
     fn append(&mut self, alloc: Global, rows: &Rows, row: &Term) -> Result<(), AllocError>
         requires index { IsIndexOf rows.now.1 self.old.position self.old.keys }
         requires further { IsFurtherOf rows.now.1 self.old.position self.old.further.by_key }
@@ -222,7 +222,7 @@ impl Index {
         self.further.raise(alloc, value, key)
     }
 
-    // A deletion of a record. The key stays where another of its records has the value.
+    // A deletion of a record. The key stays if another of its records has the value.
     fn forget_object(&mut self, alloc: Global, rows: &Rows, row: &Term) -> Result<(), AllocError>
         requires index { IsIndexOf rows.now.1 self.old.position self.old.keys }
         requires further { IsFurtherOf rows.now.1 self.old.position self.old.further.by_key }
@@ -305,7 +305,7 @@ impl Index {
     }
 }
 
-// Whether an equal record is among those of the key.
+// Returns whether an equal record is among those of the key.
 fn has_record(rows: &Rows, key: &Term, row: &Term) -> bool
     ensures { result ≡ list_any (same (term row.now)) (at rows.now.1 (term key.now)) }
 {

@@ -32,7 +32,7 @@ pub fn shared_indexes(alloc: Global, indexes: &[Index]) -> Result<Vec<Index>, Al
     Ok(same)
 }
 
-/// Where the index of a new position belongs. None where the position is there.
+/// Returns the index at which a new position belongs. None if the position is there.
 pub fn new_place(indexes: &[Index], position: u64) -> Option<usize>
     ensures { MatchOption result
         (add_number position (positions indexes.now) ≡ positions indexes.now)

@@ -1,7 +1,7 @@
 //! The records of one table, with its definition and an index for each position that the definition names.
 //!
-//! Contracts see the definition and the records, as a `Table` of tab_model. The indexes are seen in answers alone: of each
-//! the type keeps that a value and a key stand in it exactly where some record of that key has that value there.
+//! Contracts see the definition and the records, as a `Table` of tab_model. They see the indexes only in answers. The
+//! type's invariant is that an index has a value and a key exactly if some record of that key has that value there.
 
 #![tactic(auto)]
 

@@ -12,7 +12,7 @@ use tab_map::Entry;
 use tab_records::Records;
 use tab_term::{Term, has_wildcard, matches};
 
-/// Whether all records of a key's entry fit the pattern.
+/// Returns whether all records of a key's entry fit the pattern.
 pub fn fits(entry: &Entry<Term, Records>, pattern: &Term) -> bool
     ensures { result ≡ list_all (matches_of (term pattern.now)) (terms_list entry.now.1) }
 {
@@ -24,7 +24,7 @@ pub fn fits(entry: &Entry<Term, Records>, pattern: &Term) -> bool
     true
 }
 
-/// The key of the pattern, where no `'_'` stands in it: what fits the pattern has that key.
+/// The key of the pattern, if it has no `'_'` in it: a record that fits the pattern has that key.
 pub fn bound_key(pattern: &Term) -> Option<&Term>
     ensures { option_map term (option_copied result) ≡ bound_key_of (term pattern.now) }
 {

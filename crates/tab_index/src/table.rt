@@ -93,7 +93,7 @@ impl IndexedTable {
         &self.def
     }
 
-    /// How many records there are.
+    /// The number of records.
     pub fn size(&self) -> usize
         ensures { result ≡ length self.now.rows }
     {
@@ -116,7 +116,7 @@ impl IndexedTable {
         self.rows.records()
     }
 
-    /// The key with its records, in the order of their insertion. None where it has none.
+    /// The key with its records, in the order of their insertion. None if it has none.
     pub fn entry(&self, key: &Term) -> Option<&Entry<Term, Records>>
         ensures { MatchOption result (at self.now.rows (term key.now) ≡ [])
             (λ e. e.now.1 ≡ plain_terms (at self.now.rows (term key.now))) }
@@ -145,7 +145,7 @@ impl IndexedTable {
         self.rows.keys()
     }
 
-    /// The keys of which a record has the value at the position, as a set that shares all with the index. None where the
+    /// The keys of which a record has the value at the position, as a set that shares all with the index. None if the
     /// position has no index.
     pub fn keys_with(&self, position: u64, value: &Term) -> Result<Option<Set<Term>>, AllocError>
         ensures indexed { IfOk result
@@ -173,7 +173,8 @@ impl IndexedTable {
         None
     }
 
-    /// The table with an index at the position, which is made in one walk and a sort. Where there is one already, the same table.
+    /// The table with an index at the position, which is built in one walk and a sort. If there is one already, the
+    /// same table.
     pub fn add_index(&self, alloc: Global, position: u64) -> Result<IndexedTable, AllocError>
         ensures { IfOk result
             (λ table. table
@@ -215,9 +216,9 @@ impl IndexedTable {
         })
     }
 
-    /// The table after the changes, in turn. This one stays as it was, and shares what did not change. A set takes the entry
-    /// that an update has for its record. Where another bag lends its records, one that is written, and stands at the same place
-    /// of its key there, is shared too, in place of a copy.
+    /// The table after the changes, in turn. This one stays as it was, and shares the parts that did not change. A set
+    /// takes the entry that an update has for its record. If `lender` is another bag's records, and a written record is
+    /// at the same index of its key there, it is shared too and not copied.
     pub fn updated(
         &self,
         alloc: Global,
@@ -231,8 +232,8 @@ impl IndexedTable {
         self.share(alloc)?.applied(alloc, updates, lender)
     }
 
-    /// The table after the changes, in turn, in place where nothing is shared; records are lent as to `updated`. An error
-    /// drops the table.
+    /// The table after the changes, in turn, in place if nothing is shared; records may be shared as by `updated`. An
+    /// error drops the table.
     pub fn applied(
         self,
         alloc: Global,
@@ -254,8 +255,8 @@ impl IndexedTable {
         Ok(IndexedTable { def, rows, indexes })
     }
 
-    /// Makes a change. A table without indexes is changed in place where nothing is shared; one with indexes gives way to
-    /// its next version, since its parts can't change at once. Records are lent as to `updated`.
+    /// Makes a change. A table without indexes is changed in place if nothing is shared. One with indexes is replaced
+    /// by its next version, since its parts can't change at once. Records may be shared as by `updated`.
     pub fn change(
         &mut self,
         alloc: Global,

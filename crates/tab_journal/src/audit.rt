@@ -1,4 +1,4 @@
-//! Whether the entries, run from a base, give their replies and these tables.
+//! The check that the entries, run from a base, give their replies and these tables.
 
 ghost use Rattle.std.specs.Prelude.{◌≡◌, IfOk};
 ghost use Rattle.std.specs.Bool.{Decides};
@@ -14,7 +14,7 @@ use std::alloc::{AllocError, Global};
 use tab_model::{Entry, Schema};
 use tab_tables::{Catalog, Redefined, redefine};
 
-/// Whether the entries are a legal log from this base that ends in these tables.
+/// Returns whether the entries are a legal log from this base that ends in these tables.
 pub fn is_history(
     alloc: Global,
     base: &Base,
@@ -35,7 +35,7 @@ pub fn is_history(
     Ok(are_same_tables(&now, tables))
 }
 
-/// The tables after an entry, or None where it is not right on these.
+/// The tables after an entry, or None if it is not right on these.
 fn enter(
     alloc: Global,
     tables: &Catalog,

@@ -71,8 +71,8 @@ impl Base {
         self.subscriptions.as_slice()
     }
 
-    /// Takes an entry in. Of one that subscribes it is said whether its session is still joined. A set's
-    /// record is shared with the entry's move; a bag's, where it stands in these tables as the entry wrote it, with them.
+    /// Folds an entry. For one that subscribes, `joined` states whether its session is still joined. A set's record is
+    /// shared with the entry's move. A bag's is shared with these tables, if it is there as the entry wrote it.
     pub(crate) fn fold(
         &mut self,
         alloc: Global,
@@ -128,7 +128,7 @@ impl Base {
     }
 }
 
-/// How many commits there are behind this entry.
+/// The number of commits after this entry.
 pub fn number_after(commits: u64, entry: &Entry) -> u64
     ensures { result ≡ number_after_entry commits entry.now }
 {

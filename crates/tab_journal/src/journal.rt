@@ -14,15 +14,15 @@ use std::marker::Model;
 use tab_model::Entry;
 use tab_tables::Catalog;
 
-/// The weight of its entries at which a journal is full, whatever its limit of entries is: what a move keeps (its operation,
-/// its reply) is many times what a client has to send for it.
+/// The weight of its entries at which a journal is full, whatever its limit of entries is. A move keeps its operation
+/// and its reply, which is many times what a client has to send for it.
 const FULL_WEIGHT: usize = 131_072;
 
-/// What a command on a table weighs: as much as a transaction of most moves, so that a step behind one folds one command at
-/// most, since to fold it may build an index.
+/// The weight of a command on a table: as much as a transaction of most moves. So the step after one folds at most one
+/// command, since to fold it may build an index.
 const COMMAND_WEIGHT: usize = 2_000;
 
-/// The entries that stand, oldest first, with their weight, and what they started from.
+/// The entries that are not folded yet, oldest first, with their weight and their base.
 #[derive(Drop)]
 pub struct Journal {
     base: Base,
@@ -61,14 +61,14 @@ impl Journal {
         })
     }
 
-    /// Whether it holds as many entries as its limit says, or their weight makes it full.
+    /// Returns whether it has as many entries as its limit allows, or their weight makes it full.
     pub fn full(&self) -> bool
         ensures { result ≡ is_full self.now }
     {
         self.entries.is_full() || self.weight >= FULL_WEIGHT
     }
 
-    /// Puts an entry behind the others, or hands it back. Takes no memory.
+    /// Appends an entry, or returns it. Takes no memory.
     pub fn try_push(&mut self, entry: Entry) -> Result<(), Entry>
         ensures full { IsOk result ↔ IsFalse (is_full self.old) }
         ensures ok { OnOk result
@@ -84,14 +84,14 @@ impl Journal {
         Ok(())
     }
 
-    /// How many entries the journal has; at most its limit.
+    /// The number of the journal's entries; at most its limit.
     pub fn len(&self) -> usize
         ensures { result ≡ length self.now.entries }
     {
         self.entries.len()
     }
 
-    /// Whether every entry is folded into the base.
+    /// Returns whether every entry is folded into the base.
     pub fn is_empty(&self) -> bool
         ensures { IsTrue result ↔ (self.now.entries ≡ []) }
     {
@@ -105,14 +105,14 @@ impl Journal {
         self.entries.get(place)
     }
 
-    /// What the entries start from.
+    /// The base of the entries.
     pub fn base(&self) -> &Base
         ensures { result.now ≡ self.now.base }
     {
         &self.base
     }
 
-    /// True exactly where the entries are a legal log from this base that ends in these tables. Each transaction is run
+    /// True exactly if the entries are a legal log from this base that ends in these tables. Each transaction is run
     /// again and each of its replies compared, so it takes as long as the transactions themselves.
     pub fn audit(&self, alloc: Global, base: &Base, tables: &Catalog) -> Result<bool, AllocError>
         ensures { IfOk result (λ is. Decides is (IsHistory base.now self.now.entries tables.now)) }
@@ -120,8 +120,8 @@ impl Journal {
         is_history(alloc, base, &self.entries, tables)
     }
 
-    /// Folds the oldest entry into the base. Of one that subscribes the caller says whether its session is still joined.
-    /// Records that stand in these tables as the entry wrote them are shared with them, in place of a copy.
+    /// Folds the oldest entry into the base. For one that subscribes the caller states whether its session is still
+    /// joined. Records that are in these tables as the entry wrote them are shared with them and not copied.
     pub fn fold_oldest(
         &mut self,
         alloc: Global,

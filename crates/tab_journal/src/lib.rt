@@ -1,6 +1,6 @@
 //! The journal: the entries of a log, oldest first, over a base that the older ones were folded into.
 //!
-//! A journal with its base tells the tables as the log does: run from the base, its entries give their replies and the
+//! A journal with its base gives the tables as the log does: run from the base, its entries give their replies and the
 //! tables (`audit`). Folding takes the oldest entry into the base and keeps that.
 
 #![tactic(auto)]

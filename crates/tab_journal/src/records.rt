@@ -12,7 +12,7 @@ use tab_term::Term;
 #[derive(Drop)]
 pub struct Records<'a> {
     walk: Iter<'a, Term, tab_records::Records>,
-    // What is left of the key that was come to last.
+    // The remaining records of the key that the walk is at.
     left: tab_records::Iter<'a>,
 }
 
@@ -31,7 +31,7 @@ impl<'a> Model for Records<'a> {
 }
 
 impl<'a> Records<'a> {
-    /// The table's records in their order, each lent. It takes no memory.
+    /// The table's records in their order, each borrowed. It takes no memory.
     pub fn new(table: &'a IndexedTable) -> Records<'a>
         ensures { result ≡ table.now.rows }
     {

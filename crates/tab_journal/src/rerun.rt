@@ -71,7 +71,7 @@ impl Midst {
         })
     }
 
-    /// Makes a move. None where it is told another thing than this.
+    /// Makes a move. None if its reply is another than this.
     fn follow(
         self,
         alloc: Global,
@@ -231,7 +231,7 @@ fn effect(
     }
 }
 
-/// Whether an operation is told this on these tables.
+/// Returns whether this is the reply of an operation on these tables.
 fn is_told(
     alloc: Global,
     tables: &Catalog,
@@ -249,8 +249,8 @@ fn is_told(
     Ok(is_answer(answer.reply(), told))
 }
 
-/// Runs a transaction on these tables, which stay as they are: those that it leaves, or None where it is told another
-/// thing than this.
+/// Runs a transaction on these tables, which stay as they are. Returns the tables after it, or None if a reply is
+/// another than the logged one.
 pub fn rerun(
     alloc: Global,
     tables: &Catalog,

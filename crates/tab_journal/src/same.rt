@@ -1,4 +1,4 @@
-//! Whether replies and tables are the same as others.
+//! Comparisons of replies and of tables.
 
 ghost use Rattle.std.specs.Prelude.{◌≡◌, ◌&&◌, IsFalse};
 ghost use Rattle.std.specs.Str.{bytes_eq};
@@ -70,7 +70,7 @@ fn is_no_index(name: &Atom, attribute: &Term, told: &Reply) -> bool
     }
 }
 
-// A trace keeps a failure behind a count, and every other answer in itself.
+// A trace has a failure reference-counted, and every other answer directly.
 fn is_same_failure(answer: &Reply, told: &Reply) -> bool
     requires short { IsFalse (is_short told.now) }
     requires found { IsFalse (has_rows told.now) }
@@ -84,7 +84,7 @@ fn is_same_failure(answer: &Reply, told: &Reply) -> bool
     }
 }
 
-/// Whether what was told is this answer of an operation.
+/// Returns whether the logged reply is this answer of an operation.
 pub fn is_answer(answer: &Reply, told: &LoggedReply) -> bool
     ensures { result ≡ is_answer_of answer.now told.now }
 {
@@ -96,7 +96,7 @@ pub fn is_answer(answer: &Reply, told: &LoggedReply) -> bool
     }
 }
 
-/// Whether what was told is the begin of a child of the transaction with this age.
+/// Returns whether the logged reply is that to the begin of a child of the transaction with this age.
 pub fn is_tid(told: &Option<LoggedReply>, age: u64) -> bool
     ensures { result ≡ is_tid_of age told.now }
 {
@@ -106,7 +106,7 @@ pub fn is_tid(told: &Option<LoggedReply>, age: u64) -> bool
     }
 }
 
-/// Whether what was told is the commit of a child.
+/// Returns whether the logged reply is that to the commit of a child.
 pub fn is_atomic_ok(told: &Option<LoggedReply>) -> bool
     ensures { result ≡ is_atomic_ok_of told.now }
 {
@@ -210,7 +210,7 @@ fn is_same_table(one: &IndexedTable, other: &IndexedTable) -> bool
     have_same_records(one, other)
 }
 
-/// Whether these are the same tables.
+/// Returns whether these are the same tables.
 pub fn are_same_tables(ones: &Catalog, others: &Catalog) -> bool
     ensures { result ≡ same_tables ones.now others.now }
 {

@@ -1,4 +1,4 @@
-//! Who is subscribed to which table.
+//! The subscriptions of sessions to tables.
 
 ghost use Rattle.std.specs.Prelude.{◌≡◌, ◌++◌, ◌∷◌, [], not, true, ◌==◌, OnOk, OnErr};
 ghost use Rattle.std.specs.Option.{option_copied};

@@ -12,10 +12,10 @@ use tab_model::{LoggedOperation, LoggedReply, Move};
 use tab_rows::Update;
 use tab_txstore::update_of;
 
-/// The updates so far that stand.
+/// The updates so far that were not undone.
 pub struct Survivors {
     updates: Vec<Update>,
-    // How many stood when each open level began, innermost first.
+    // The number of updates when each open level began, innermost first.
     begun: VecDeque<usize>,
 }
 

@@ -1,6 +1,6 @@
 -- The owners' lists as one: what a lock more, and an owner less, make of it.
-use Rattle.std.proofs.Common.{◌≡◌, ℕ, List, [], ◌∷◌, ◌++◌, Bool, true, false, ◌||◌, ◌&&◌, not, cond, refl, sym, ap, ◌∙◌, subst, Option, Some, None, Ordering, Less, Equal, Greater, arith, nat_cmp, append_assoc}
-use Rattle.std.specs.Prelude.{◌==◌, nat_lt, if◌then◌else◌}
+use Rattle.std.proofs.Common.{◌≡◌, ℕ, List, [], ◌∷◌, ◌++◌, Bool, true, false, ◌||◌, ◌&&◌, not, cond, refl, sym, ap, ◌∙◌, subst, Option, Some, None, Ordering, Less, Equal, Greater, arith, nat_cmp, append_assoc, append-nil}
+use Rattle.std.specs.Prelude.{◌==◌, filter, nat_lt, if◌then◌else◌}
 use Rattle.std.specs.Global.{Vec}
 use Rattle.std.specs.List.{list_any, AllByRecursion}
 use Rattle.std.specs.List.Sorted.{IsStrictlySortedBy}
@@ -154,6 +154,45 @@ listed_without age (e ∷ es) s = by (is_eq (nat_cmp age e.0)) refl (listed_with
         sym (without_own age e.0 (e.1).items (listed es) (ap (λ k. k == age) (sym age_is) ∙ itself age)
         ∙ ap (λ a. without a (listed es)) age_is ∙ without_none e.0 es s.0)
     by false t ih = ap (λ zs. owned_by e.0 (e.1).items ++ zs) ih ∙ sym (without_other age e.0 (e.1).items (listed es) (apart_is age e.0 t))
+
+-- ---- the locks of one owner
+
+own_only : (age k : ℕ) (ls : List code.Lock) (ys : List Owned) → (k == age) ≡ true → filter (λ (x : Owned). x.0 == age) (owned_by k ls ++ ys) ≡ owned_by k ls ++ filter (λ (x : Owned). x.0 == age) ys
+own_only age k [] ys h = refl
+own_only age k (l ∷ ls) ys h =
+    (λ i. if h i then (k, lock_of l) ∷ filter (λ (x : Owned). x.0 == age) (owned_by k ls ++ ys) else filter (λ (x : Owned). x.0 == age) (owned_by k ls ++ ys))
+    ∙ ap (λ zs. (k, lock_of l) ∷ zs) (own_only age k ls ys h)
+
+own_none : (age k : ℕ) (ls : List code.Lock) (ys : List Owned) → (k == age) ≡ false → filter (λ (x : Owned). x.0 == age) (owned_by k ls ++ ys) ≡ filter (λ (x : Owned). x.0 == age) ys
+own_none age k [] ys h = refl
+own_none age k (l ∷ ls) ys h =
+    (λ i. if h i then (k, lock_of l) ∷ filter (λ (x : Owned). x.0 == age) (owned_by k ls ++ ys) else filter (λ (x : Owned). x.0 == age) (owned_by k ls ++ ys))
+    ∙ own_none age k ls ys h
+
+none_own : (age : ℕ) (es : Entries) → AllByRecursion (λ k. nat_cmp age k ≡ Less) (keys_of es) → filter (λ (x : Owned). x.0 == age) (listed es) ≡ []
+none_own age [] h = refl
+none_own age (e ∷ es) h = own_none age e.0 (e.1).items (listed es) (less_apart age e.0 h.0) ∙ none_own age es h.1
+
+-- the locks in an owner's list, where there is one
+abbrev pub locks_at : Option (Vec code.Lock) → List code.Lock
+locks_at None = []
+locks_at (Some v) = v.items
+
+pub listed_own : (age : ℕ) (es : Entries) → IsStrictlySortedBy nat_cmp (keys_of es) → filter (λ (x : Owned). x.0 == age) (listed es) ≡ owned_by age (locks_at (lookup (is_at (nat_cmp age)) es))
+unfolding IsStrictlySortedBy
+listed_own age [] s = refl
+listed_own age (e ∷ es) s = by (is_eq (nat_cmp age e.0)) refl (listed_own age es s.1)
+  where
+    by : (b : Bool) → is_eq (nat_cmp age e.0) ≡ b → filter (λ (x : Owned). x.0 == age) (listed es) ≡ owned_by age (locks_at (lookup (is_at (nat_cmp age)) es))
+        → filter (λ (x : Owned). x.0 == age) (listed (e ∷ es)) ≡ owned_by age (locks_at (cond b (Some e.1) (lookup (is_at (nat_cmp age)) es)))
+    by true t ih =
+        let age_is = tied_is age e.0 t in
+        let later = subst (λ (a : ℕ). AllByRecursion (λ k. nat_cmp a k ≡ Less) (keys_of es)) (sym age_is) s.0 in
+        own_only age e.0 (e.1).items (listed es) (ap (λ k. k == age) (sym age_is) ∙ itself age)
+        ∙ ap (λ zs. owned_by e.0 (e.1).items ++ zs) (none_own age es later)
+        ∙ append-nil (owned_by e.0 (e.1).items)
+        ∙ ap (λ (a : ℕ). owned_by a (e.1).items) (sym age_is)
+    by false t ih = own_none age e.0 (e.1).items (listed es) (apart_is age e.0 t) ∙ ih
 
 same_part_itself : (part : Part) → same_part part part ≡ true
 same_part_itself All = refl

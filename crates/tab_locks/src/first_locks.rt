@@ -18,8 +18,8 @@ use std::marker::Model;
 use tab_key::Abbreviate;
 use tab_term::Term;
 
-/// A lock on a key of each number: the first that came. Integers of up to four bytes and most short texts have numbers of their
-/// own, so that such a key with one owner is found by comparing integers alone.
+/// A lock on a key of each number: the first that came. Integers of up to four bytes and most short texts have numbers
+/// of their own, so that such a key with one owner is found by comparing only integers.
 #[derive(Drop)]
 pub(crate) struct FirstLocks {
     locks: NumberedLocks,
@@ -51,7 +51,7 @@ impl FirstLocks {
         }
     }
 
-    /// Whether there is one.
+    /// Returns whether there is a lock.
     pub fn is_occupied(&self) -> bool
         ensures { result ≡ list_any (λ _. true) self.now }
     {
@@ -66,7 +66,7 @@ impl FirstLocks {
         self.locks.any(question)
     }
 
-    /// Looks at that key alone.
+    /// Looks only at that key.
     pub fn any_at(&self, question: Question, key: &Term) -> bool
         ensures { result
             ≡ list_any (λ s.
@@ -90,8 +90,8 @@ impl FirstLocks {
         self.locks.get(number)
     }
 
-    /// Holds a lock on this key, where none stands under its number, or this very one does; else it tells that it does not, and
-    /// stays as it is. One search: a lock that is not there goes where it ends, and only such a one takes memory.
+    /// Adds a lock on this key, if its number has no lock or this very one; else it returns false, and stays as it is.
+    /// It makes one search, a new lock goes to the end of it, and only a new one takes memory.
     pub fn add(
         &mut self,
         alloc: Global,
@@ -114,8 +114,8 @@ impl FirstLocks {
         Ok(met.is_held())
     }
 
-    /// The same at a key that has no lock here, in one search too; `false` where another key's lock has its number. At a key that
-    /// has one it is hindered.
+    /// The same at a key that has no lock here, in one search too; `false` if another key's lock has its number. At a
+    /// key that has one it is hindered.
     pub fn add_free(
         &mut self,
         alloc: Global,
@@ -140,7 +140,7 @@ impl FirstLocks {
         }
     }
 
-    /// This one is held no more.
+    /// Removes this lock.
     pub fn remove(&mut self, key: &Term, age: u64, write: bool)
         ensures { Drops (stands_on_key (term key.now) (age, write)) self.old self.new }
     {

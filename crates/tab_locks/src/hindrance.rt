@@ -1,7 +1,7 @@
 use std::alloc::{AllocError, AllocFailed};
 
-/// A lock is not held at once, since someone holds one on what it is on, or memory is refused. Which it is, a question tells that
-/// takes no memory.
+/// A lock is not granted at once, since another lock is on the same part, or memory is refused. A question that takes
+/// no memory finds out which.
 #[derive(Clone, Copy)]
 pub(crate) struct Hindrance;
 

@@ -8,8 +8,8 @@ use crate::question::Question;
 use std::alloc::{AllocError, Global};
 use std::marker::Model;
 
-/// The owners of locks on one part of a table, by their ages, each with whether it holds for writing. Mostly there is one,
-/// which stands here itself and takes no memory, and no more than two for each session.
+/// The owners of locks on one part of a table, by their ages, each with whether it holds for writing. Mostly there is
+/// one, which is stored directly and takes no memory, and no more than two for each session.
 #[derive(Drop)]
 pub(crate) struct Holders {
     first: Option<(u64, bool)>,
@@ -37,7 +37,7 @@ impl Holders {
         }
     }
 
-    /// One holder alone. It takes no memory.
+    /// One holder. It takes no memory.
     pub fn only(alloc: Global, age: u64, write: bool) -> Holders
         ensures { HasMore (age, write) [] result }
     {
@@ -47,14 +47,14 @@ impl Holders {
         }
     }
 
-    /// Whether anyone holds it.
+    /// Returns whether anyone holds a lock.
     pub fn is_occupied(&self) -> bool
         ensures { result ≡ list_any (λ _. true) self.now }
     {
         self.first.is_some() || is_filled(&self.others)
     }
 
-    /// Whether a holder stands in this relation to who asks.
+    /// Returns whether a holder is in the question's relation to its owner.
     pub fn any(&self, question: Question) -> bool
         ensures { result
             ≡ list_any (fits question.relation (question.age, question.write)) self.now }

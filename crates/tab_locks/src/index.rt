@@ -16,8 +16,9 @@ use std::marker::Model;
 use tab_model::Lock;
 use tab_term::Atom;
 
-/// The owners of locks, by table and key. Mostly all are on one table, which stands here itself, where a map's first entry
-/// takes a node with room for 15. A table that comes while another stands here goes among the others, until no lock is on it.
+/// The owners of locks, by table and key. Mostly all are on one table, which is stored directly, since a map's first
+/// entry takes a node with room for 15. A table that comes while another is first goes among the others, until no lock
+/// is on it.
 #[derive(Drop)]
 pub(crate) struct Index {
     first: Option<(Atom, OnTable)>,
@@ -53,7 +54,7 @@ impl Index {
         }
     }
 
-    /// Whether a transaction that holds a lock stands in this relation to who asks for that one.
+    /// Returns whether the owner of a lock is in this relation to a request of this age for that lock.
     pub fn any(&self, relation: Relation, age: u64, lock: &Lock) -> bool
         ensures { result ≡ list_any (asked relation (age, lock_of lock.now)) self.now }
     {
@@ -63,7 +64,7 @@ impl Index {
         }
     }
 
-    /// Whether anyone holds a lock in the table.
+    /// Returns whether anyone holds a lock in the table.
     pub fn is_locked(&self, table: &Atom) -> bool
         ensures { result ≡ list_any (is_in table.now) self.now }
     {
@@ -73,8 +74,8 @@ impl Index {
         }
     }
 
-    /// The transaction of this age holds the lock too. Where no table stands first, that of the lock does, unless it is among the
-    /// others.
+    /// Adds the lock of the transaction of this age. If no table is first, that of the lock becomes so, unless it is
+    /// among the others.
     pub fn add(&mut self, alloc: Global, age: u64, lock: &Lock) -> Result<(), AllocError>
         ensures ok { OnOk result (HasMore (age, lock_of lock.now) self.old self.new) }
         ensures err { OnErr result (SameMembers self.old self.new) }
@@ -90,7 +91,7 @@ impl Index {
         }
     }
 
-    /// The same where no one holds a lock on what this one is on, and else nothing.
+    /// The same if no one holds a lock on the same part, and else nothing.
     pub fn add_free(&mut self, alloc: Global, age: u64, lock: &Lock) -> Result<(), Hindrance>
         ensures ok { OnOk result (HasMore (age, lock_of lock.now) self.old self.new) }
         ensures free { OnOk result
@@ -127,7 +128,7 @@ impl Index {
     }
 }
 
-/// A lock's table, with this lock alone.
+/// A lock's table, with only this lock.
 fn table_with(alloc: Global, age: u64, lock: &Lock) -> Result<(Atom, OnTable), AllocError>
     ensures { IfOk result
         (λ t. (t.0 ≡ lock.now.table)

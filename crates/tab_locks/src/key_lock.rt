@@ -10,7 +10,7 @@ use crate::question::Question;
 use std::alloc::{AllocError, Global};
 use tab_term::Term;
 
-/// A lock on a key, with its owner's age and whether it is held for writing.
+/// A lock on a key, with its owner's age and whether it is for writing.
 #[derive(Drop)]
 pub(crate) struct KeyLock {
     pub key: Term,
@@ -31,7 +31,7 @@ impl KeyLock {
         })
     }
 
-    /// Whether it is on this key, and this owner's in this mode.
+    /// Returns whether it is on this key, and this owner's in this mode.
     pub fn is(&self, key: &Term, age: u64, write: bool) -> bool
         ensures { result
             ≡ (same (term key.now) (term self.now.key) && is_holding (age, write)
@@ -40,7 +40,7 @@ impl KeyLock {
         self.age == age && self.write == write && *key == self.key
     }
 
-    /// What a lock on this key, of this owner and mode, meets in this one.
+    /// Compares a lock on this key, of this owner and mode, with this one.
     pub fn met_by(&self, key: &Term, age: u64, write: bool) -> Met
         ensures { result
             ≡ met_of (same (term key.now) (term self.now.key)) (is_holding (age, write)
@@ -55,7 +55,7 @@ impl KeyLock {
         Met::ItsKey
     }
 
-    /// Whether it is on this key, and its owner stands in this relation to who asks.
+    /// Returns whether it is on this key, and its owner is in the question's relation.
     pub fn fits_at(&self, question: Question, key: &Term) -> bool
         ensures { result
             ≡ (same (term key.now) (term self.now.key) && fits question.relation

@@ -16,8 +16,9 @@ use std::marker::Model;
 use tab_key::Abbreviate;
 use tab_term::Term;
 
-/// The owners of locks on the keys of one table. A lock stands under its key's number where no other stood there when it came; one
-/// on another key of that number, or another one on the same key, stands among the ties, in the order of terms.
+/// The owners of locks on the keys of one table. A lock is in `first` by its key's number, if the number was free when
+/// it came. A lock on another key of that number, or another one on the same key, is among the ties, in the order of
+/// terms.
 #[derive(Drop)]
 pub(crate) struct Keys {
     first: FirstLocks,
@@ -48,7 +49,7 @@ impl Keys {
         }
     }
 
-    /// Whether anyone holds a lock of a key.
+    /// Returns whether anyone holds a lock of a key.
     pub fn is_occupied(&self) -> bool
         ensures { result ≡ list_any (λ _. true) self.now }
     {
@@ -63,7 +64,7 @@ impl Keys {
         self.first.any_key(question) || self.tied.any_key(question)
     }
 
-    /// Looks at that key alone.
+    /// Looks only at that key.
     pub fn any_at(&self, question: Question, key: &Term) -> bool
         ensures { result
             ≡ list_any (λ s.
@@ -127,7 +128,7 @@ impl Keys {
         self.tied.add_free(alloc, key, age, write)
     }
 
-    // A key among the ties may have no lock under its number, where to make room for one would take memory.
+    // A key among the ties may have no lock by its number. To make room for one would take memory.
     fn add_free_beside_ties(
         &mut self,
         alloc: Global,

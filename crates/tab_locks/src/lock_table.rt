@@ -1,4 +1,4 @@
-ghost use Rattle.std.specs.Prelude.{◌≡◌, [], ◌∷◌, ◌++◌, is_ok, if◌then◌else◌, OnOk, OnErr, IfOk, IfErr, IsFalse};
+ghost use Rattle.std.specs.Prelude.{◌≡◌, [], ◌∷◌, ◌++◌, ◌==◌, filter, is_ok, if◌then◌else◌, OnOk, OnErr, IfOk, IfErr, IsFalse};
 ghost use Rattle.std.specs.List.{list_any};
 ghost use Rattle.std.specs.Str.{bytes_eq};
 ghost use Rattle.tab_model.specs.Ages.{covers_own, without};
@@ -6,7 +6,7 @@ ghost use Rattle.tab_model.specs.State.{is_in};
 ghost use Rattle.tab_locks.specs.Plain.{lock_of, part_of};
 ghost use Rattle.tab_locks.specs.Spots.{same_part, same_lock};
 ghost use Rattle.tab_locks.specs.Members.{HasMore, SameMembers, Drops};
-ghost use Rattle.tab_locks.specs.Placed.{placed, without_last, listed, is_of, conflict_with, standing as standing_of, in_the_way, conflict_in, after_asked, GivesBack};
+ghost use Rattle.tab_locks.specs.Placed.{owned_by, placed, without_last, listed, is_of, conflict_with, standing as standing_of, in_the_way, conflict_in, after_asked, GivesBack};
 ghost use Rattle.tab_locks.specs.Questions.{meets_at};
 ghost use Rattle.tab_locks.specs.declared.lock_table.Conflict.TheVariants.{WithYounger, WithOlder};
 ghost use Rattle.tab_locks.specs.declared.lock_table.Asked.TheVariants.{Held};
@@ -19,7 +19,7 @@ use std::marker::Model;
 use tab_model::{Lock, What};
 use tab_term::Atom;
 
-/// Whose locks a request conflicts with.
+/// The owners that a request conflicts with: none, only younger ones, or an older one.
 #[derive(Clone, Copy, Debug, PartialEq, Eq)]
 pub enum Conflict {
     Free,
@@ -40,15 +40,15 @@ impl Conflict {
     }
 }
 
-/// What is answered to who asks for a lock.
+/// The answer to a request for a lock.
 #[derive(Drop)]
 pub enum Asked {
     Held,
-    /// With whose locks it conflicts, and the lock, which is not held.
+    /// The owners that it conflicts with, and the lock, which is not granted.
     InConflict(Conflict, Lock),
 }
 
-/// The locks that are held, each under the age of its owner.
+/// The granted locks, each with the age of its owner.
 #[derive(Drop)]
 pub struct LockTable {
     alloc: Global,
@@ -84,14 +84,15 @@ impl LockTable {
         }
     }
 
-    /// Whether a lock that this owner holds serves for this one. It takes no memory.
+    /// Returns whether a lock that this owner holds serves for this one. It takes no memory.
     pub fn covered(&self, age: u64, lock: &Lock) -> bool
         ensures { result ≡ list_any (covers_own (age, lock_of lock.now)) self.now }
     {
         self.index.any(Relation::Covering, age, lock)
     }
 
-    /// Whether this lock conflicts with one of another owner, and if so, whether with an older one's. It takes no memory.
+    /// The other owners whose locks this one conflicts with: none, only younger ones, or an older one. It takes no
+    /// memory.
     pub fn conflicts(&self, age: u64, lock: &Lock) -> Conflict
         ensures { result ≡ conflict_with (age, lock_of lock.now) self.now }
     {
@@ -101,8 +102,8 @@ impl LockTable {
         Conflict::with(self.index.any(Relation::Blocking, age, lock))
     }
 
-    /// Whom a request conflicts with, or `None` where a lock of its own owner serves. It takes no memory. Mostly no one holds a
-    /// lock there, and then one search tells.
+    /// The owners that a request conflicts with, or `None` if a lock of its own owner serves. It takes no memory.
+    /// Mostly no one holds a lock there, and then one search is enough.
     pub fn standing(&self, age: u64, lock: &Lock) -> Option<Conflict>
         ensures { result ≡ standing_of (age, lock_of lock.now) self.now }
     {
@@ -115,14 +116,24 @@ impl LockTable {
         Some(self.conflicts(age, lock))
     }
 
-    /// Whether some lock is on this table, or on a key of it.
+    /// The locks of this owner, in the order in which they were granted. It takes no memory.
+    pub fn of(&self, age: u64) -> &[Lock]
+        ensures { owned_by age result.now ≡ filter (λ x. x.0 == age) self.now }
+    {
+        match self.owners.get(&age) {
+            Some(locks) => locks.as_slice(),
+            None => &[],
+        }
+    }
+
+    /// Returns whether some lock is on this table, or on a key of it.
     pub fn is_locked(&self, table: &Atom) -> bool
         ensures { result ≡ list_any (is_in table.now) self.now }
     {
         self.index.is_locked(table)
     }
 
-    /// Holds a lock once more, also one that is held already. `unhold` undoes it.
+    /// Adds a lock once more, also one that the owner has already. `unhold` undoes it.
     pub fn hold(&mut self, age: u64, lock: Lock) -> Result<(), AllocError>
         ensures ok { OnOk result (self.new ≡ placed (age, lock_of lock) self.old) }
         ensures undo { OnOk result (without_last age self.new ≡ self.old) }
@@ -133,8 +144,9 @@ impl LockTable {
         keep(locks, &mut self.index, self.alloc, age, lock)
     }
 
-    /// Holds a lock where one of its owner's serves for it, or no one's is in conflict with it. Mostly no one holds a lock there,
-    /// and then it is held at once, with no question before. To tell of a conflict takes no memory that may be refused.
+    /// Grants a lock if one of its owner's serves for it, or no one's is in conflict with it. Mostly no one holds a
+    /// lock there, and then it is granted at once, with no question before. A conflict is found without memory that may
+    /// be refused.
     pub fn ask(&mut self, age: u64, lock: Lock) -> Result<Asked, AllocError>
         ensures answer { IfOk result
             (λ a. conflict_in a ≡ in_the_way (age, lock_of lock) self.old) }
@@ -154,7 +166,7 @@ impl LockTable {
         Ok(Asked::Held)
     }
 
-    /// Whom a lock that is asked for is in conflict with, or `None` where it may be held. It takes no memory.
+    /// The owners that a requested lock is in conflict with, or `None` if it may be granted. It takes no memory.
     fn obstacle(&self, age: u64, lock: &Lock) -> Option<Conflict>
         ensures { result ≡ in_the_way (age, lock_of lock.now) self.now }
     {
@@ -164,7 +176,7 @@ impl LockTable {
         Some(Conflict::with(self.index.any(Relation::Blocking, age, lock)))
     }
 
-    /// Holds a lock where no one holds one on what it is on. Else, or where memory is refused, it comes back.
+    /// Grants a lock if no one holds one on the same part. Else, or if memory is refused, it returns the lock.
     fn hold_free(&mut self, age: u64, lock: Lock) -> Result<(), Lock>
         ensures ok { OnOk result (self.new ≡ placed (age, lock_of lock) self.old) }
         ensures undo { OnOk result (without_last age self.new ≡ self.old) }
@@ -212,7 +224,7 @@ impl LockTable {
     }
 }
 
-/// Room comes first, so that nothing is to be undone where memory is refused.
+/// Adds the lock to both. It reserves room first, so that it has nothing to undo if memory is refused.
 fn keep(
     locks: &mut Vec<Lock>,
     index: &mut Index,
@@ -231,7 +243,7 @@ fn keep(
     Ok(())
 }
 
-/// The same where no one holds a lock on what this one is on. Else, or where memory is refused, it comes back.
+/// The same if no one holds a lock on the same part. Else, or if memory is refused, it returns the lock.
 fn keep_free(
     locks: &mut Vec<Lock>,
     index: &mut Index,
@@ -256,7 +268,7 @@ fn keep_free(
     Ok(())
 }
 
-/// Whether one of these is on the same table and part, in the same mode.
+/// Returns whether one of these is on the same table and part, in the same mode.
 fn has_equal(locks: &[Lock], lock: &Lock) -> bool
     ensures { result ≡ list_any (λ l. same_lock (lock_of lock.now) (lock_of l)) locks.now }
 {

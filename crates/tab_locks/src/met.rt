@@ -1,7 +1,7 @@
 ghost use Rattle.std.specs.Prelude.{◌≡◌};
 ghost use Rattle.tab_locks.specs.Numbered.{holds};
 
-/// What a lock meets that is to be put under its number. It is put there where it meets nothing.
+/// The lock that has the number of a new lock already. The new one is put there if there is none.
 #[derive(Clone, Copy)]
 pub(crate) enum Met {
     /// No lock under its number.
@@ -15,7 +15,7 @@ pub(crate) enum Met {
 }
 
 impl Met {
-    /// Whether the lock stands there now.
+    /// Returns whether the lock is there now.
     pub fn is_held(self) -> bool
         ensures { result ≡ holds self }
     {

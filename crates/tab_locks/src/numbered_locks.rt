@@ -17,8 +17,8 @@ use std::collections::btree_map::Entry;
 use std::marker::Model;
 use tab_term::Term;
 
-/// Locks by number. Mostly there is one, which stands here itself and takes no memory but its key's, where a map's first entry
-/// takes a node with room for 15. Others that come while it stands, or while the map has any, go into the map.
+/// Locks by number. Mostly there is one, which is stored directly and takes only its key's memory, since a map's first
+/// entry takes a node with room for 15. Others that come while it is there, or while the map has any, go into the map.
 #[derive(Drop)]
 pub(crate) struct NumberedLocks {
     first: Option<(u64, KeyLock)>,
@@ -53,7 +53,7 @@ impl NumberedLocks {
         }
     }
 
-    /// Whether there is one.
+    /// Returns whether there is a lock.
     pub fn is_occupied(&self) -> bool
         ensures { result ≡ list_any (λ _. true) self.now }
     {
@@ -85,8 +85,8 @@ impl NumberedLocks {
         }
     }
 
-    /// Puts a lock on a copy of this key under the number, where it meets none there. The first place is looked at, and the map is
-    /// searched once: a new lock goes where the search ends.
+    /// Puts a lock on a copy of this key at the number, if the number has none. It looks at the first lock, and
+    /// searches the map once: a new lock goes to the end of the search.
     pub fn place(
         &mut self,
         alloc: Global,
@@ -112,7 +112,7 @@ impl NumberedLocks {
         place_among(&mut self.others, alloc, number, key, age, write)
     }
 
-    /// None stands under this number any more. The place of the first stays empty while others are left.
+    /// Removes the lock with this number. `first` stays empty while others are left.
     pub fn remove(&mut self, number: u64)
         ensures entries { self.new ≡ remove_entry (is_at (nat_cmp number)) self.old }
         ensures apart { IsApart self.new }

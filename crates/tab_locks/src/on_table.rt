@@ -45,7 +45,7 @@ impl OnTable {
         }
     }
 
-    /// One lock alone.
+    /// One lock.
     pub fn only(alloc: Global, what: &What, age: u64, write: bool) -> Result<OnTable, AllocError>
         ensures { IfOk result (λ spots. HasMore (part_of what.now, (age, write)) [] spots) }
     {
@@ -54,14 +54,14 @@ impl OnTable {
         Ok(spots)
     }
 
-    /// Whether anyone holds a lock in the table.
+    /// Returns whether anyone holds a lock in the table.
     pub fn is_occupied(&self) -> bool
         ensures { result ≡ list_any (λ _. true) self.now }
     {
         self.all.is_occupied() || self.keys.is_occupied()
     }
 
-    /// Looks at the locks on all of the table, and at those on the key, or on every key where the question is about all.
+    /// Looks at the locks on all of the table, and at those on the key, or on every key if the question is about all.
     pub fn any(&self, question: Question, what: &What) -> bool
         ensures { result
             ≡ list_any (λ s.
@@ -94,7 +94,7 @@ impl OnTable {
         }
     }
 
-    /// The same where no one holds a lock on that part, and else nothing.
+    /// The same if no one holds a lock on that part, and else nothing.
     pub fn add_free(
         &mut self,
         alloc: Global,

@@ -6,8 +6,12 @@ ghost use Rattle.tab_locks.specs.Questions.{fits as fits_of, reaches};
 
 use tab_model::{Lock, Mode};
 
-/// What is asked of a held lock: whether it is on what is asked for, whoever holds it; whether it is another owner's and
-/// conflicts, whether that owner is older too; whether it is the same owner's and serves.
+/// The test of a granted lock against a request:
+///
+/// - `Meeting`: it is on the requested part, of whatever owner.
+/// - `Opposing`: it is another owner's and conflicts.
+/// - `Blocking`: it is another owner's and conflicts, and that owner is older.
+/// - `Covering`: it is the same owner's and serves.
 #[derive(Clone, Copy)]
 pub(crate) enum Relation {
     Meeting,
@@ -16,7 +20,7 @@ pub(crate) enum Relation {
     Covering,
 }
 
-/// What is asked of the owners at one part of a table, on behalf of this owner and mode.
+/// A test of the owners at one part of a table, for this owner and mode.
 #[derive(Clone, Copy)]
 pub(crate) struct Question {
     pub relation: Relation,
@@ -25,7 +29,7 @@ pub(crate) struct Question {
 }
 
 impl Question {
-    /// What a request for a lock asks of the owners on its table.
+    /// The test of the owners on a lock's table, for a request for the lock.
     pub fn of(relation: Relation, age: u64, lock: &Lock) -> Question
         ensures { result
             ≡ record { relation = relation; age = age; write = is_write_of lock.now.mode } }
@@ -37,7 +41,7 @@ impl Question {
         }
     }
 
-    /// Whether a lock on a key matters to a question about all of its table.
+    /// Returns whether a lock on a key matters to a question about all of its table.
     pub fn reaches_keys(self) -> bool
         ensures { (k : PlainTerm) → result ≡ reaches self.relation All (Key k) }
     {
@@ -47,7 +51,7 @@ impl Question {
         }
     }
 
-    /// Whether a holder of this age and kind is one that is asked for.
+    /// Returns whether a holder of this age and kind is one that is asked for.
     pub fn fits(self, age: u64, write: bool) -> bool
         ensures { result ≡ fits_of self.relation (self.age, self.write) (age, write) }
     {

@@ -53,7 +53,7 @@ impl Tables {
         }
     }
 
-    /// Whether a transaction that holds a lock stands in this relation to who asks for that one.
+    /// Returns whether the owner of a lock is in this relation to a request of this age for that lock.
     pub fn any(&self, relation: Relation, age: u64, lock: &Lock) -> bool
         ensures { result ≡ list_any (asked relation (age, lock_of lock.now)) self.now }
     {
@@ -63,7 +63,7 @@ impl Tables {
         }
     }
 
-    /// Whether anyone holds a lock in the table.
+    /// Returns whether anyone holds a lock in the table.
     pub fn is_locked(&self, table: &Atom) -> bool
         ensures { result ≡ list_any (is_in table.now) self.now }
     {
@@ -89,7 +89,7 @@ impl Tables {
         }
     }
 
-    /// The same where no one holds a lock on what this one is on, and else nothing.
+    /// The same if no one holds a lock on the same part, and else nothing.
     pub fn add_free(&mut self, alloc: Global, age: u64, lock: &Lock) -> Result<(), Hindrance>
         ensures ok { OnOk result (HasMore (age, lock_of lock.now) self.old self.new) }
         ensures free { OnOk result
@@ -110,7 +110,8 @@ impl Tables {
     }
 }
 
-/// Takes an owner away from the table and part of a lock, in one search of each, and the table where that was the last one.
+/// Takes an owner away from the table and part of a lock, in one search of each, and the table too if that was the last
+/// one.
 fn take(tables: &mut BTreeMap<Atom, OnTable>, alloc: Global, age: u64, lock: Lock)
     requires { HasNoneEmpty tables.old.entries }
     ensures dropped { Drops (holds_at age (lock_of lock)) (locks_in tables.old.entries)
@@ -129,7 +130,7 @@ fn take(tables: &mut BTreeMap<Atom, OnTable>, alloc: Global, age: u64, lock: Loc
                 }
                 entry.remove();
             }
-            // What a dropped entry leaves is not known, so it is filled and emptied.
+            // The state after a dropped entry is not known, so it is filled and emptied.
             Entry::Vacant(entry) => {
                 entry.insert_entry(OnTable::new(alloc)).remove();
             }

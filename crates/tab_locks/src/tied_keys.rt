@@ -18,8 +18,8 @@ use std::collections::btree_map::Entry;
 use std::marker::Model;
 use tab_term::Term;
 
-/// The owners of locks on keys whose numbers had another lock when they came: on another key that ties with theirs, or on the
-/// same one.
+/// The owners of locks on keys whose numbers were taken when they came: by a lock on another key that ties with theirs,
+/// or on the same one.
 #[derive(Drop)]
 pub(crate) struct TiedKeys {
     holders: BTreeMap<Term, Holders>,
@@ -52,7 +52,7 @@ impl TiedKeys {
         }
     }
 
-    /// Whether anyone holds a lock of a key.
+    /// Returns whether anyone holds a lock of a key.
     pub fn is_occupied(&self) -> bool
         ensures { result ≡ list_any (λ _. true) self.now }
     {
@@ -67,7 +67,7 @@ impl TiedKeys {
         any_of(&self.holders, question)
     }
 
-    /// Looks at that key alone.
+    /// Looks only at that key.
     pub fn any_at(&self, question: Question, key: &Term) -> bool
         ensures { result
             ≡ list_any (λ s.
@@ -80,14 +80,14 @@ impl TiedKeys {
         }
     }
 
-    /// Whether someone holds a lock of that key.
+    /// Returns whether someone holds a lock of that key.
     pub fn has(&self, key: &Term) -> bool
         ensures { result ≡ list_any (λ s. same (term key.now) s.0) self.now }
     {
         self.holders.contains_key(key)
     }
 
-    /// One search; a key that is not there goes where it ends.
+    /// Makes one search; a new key goes to the end of it.
     pub fn add(
         &mut self,
         alloc: Global,
@@ -122,7 +122,7 @@ impl TiedKeys {
     {
         let entry = self.holders.entry(key.try_clone(alloc)?)?;
         match entry {
-            // What a loan leaves is known, where a dropped entry tells nothing.
+            // The state after a borrow is known, but after a dropped entry it is not.
             Entry::Occupied(entry) => {
                 entry.into_mut();
                 return Err(Hindrance);
@@ -151,7 +151,7 @@ fn any_of(holders: &BTreeMap<Term, Holders>, question: Question) -> bool
     holders.values().any(|at_key| at_key.any(question))
 }
 
-/// Takes an owner away from a key, in one search, and the key itself where that was the last one.
+/// Takes an owner away from a key, in one search, and the key itself if that was the last one.
 fn take(holders: &mut BTreeMap<Term, Holders>, alloc: Global, key: Term, age: u64, write: bool)
     requires { HasNoneEmpty holders.old.entries }
     ensures dropped { Drops (stands_on_key (term key) (age, write)) (key_spots holders.old.entries)
@@ -169,7 +169,7 @@ fn take(holders: &mut BTreeMap<Term, Holders>, alloc: Global, key: Term, age: u6
                 }
                 entry.remove();
             }
-            // What a dropped entry leaves is not known, so it is filled and emptied.
+            // The state after a dropped entry is not known, so it is filled and emptied.
             Entry::Vacant(entry) => {
                 entry.insert_entry(Holders::new(alloc)).remove();
             }

@@ -6,7 +6,7 @@ ghost use Rattle.tab_oneshot.specs.Attempts.{sort_of};
 
 use tab_model::{Reply, SharedReply};
 
-/// What an answer says of the levels.
+/// The effect of an answer on the levels.
 #[derive(Clone, Copy)]
 pub enum Sort {
     /// An operation is done.
@@ -27,7 +27,7 @@ pub enum Sort {
     Other,
 }
 
-/// An answer of the seat.
+/// An answer of the session.
 pub struct OneShotAnswer {
     pub reply: SharedReply,
 }
@@ -58,7 +58,7 @@ impl OneShotAnswer {
         reply
     }
 
-    /// What the answer says of the levels.
+    /// The effect of the answer on the levels.
     pub fn sort(&self) -> Sort
         ensures { result ≡ sort_of self.now.reply }
     {

@@ -1,4 +1,4 @@
-//! What the seat is asked, and the ends of levels.
+//! Commands to the session, and the ends of levels.
 
 ghost use Rattle.std.specs.Prelude.{◌≡◌, ◌∷◌, [], List, suc, length};
 ghost use Rattle.tab_term.specs.Data.{PlainTerms};
@@ -22,7 +22,7 @@ pub fn ask<S: Steps>(steps: &mut S, command: Command) -> OneShotAnswer
     }
 }
 
-/// The answer of what waits; None where no one can wait.
+/// The answer of the operation that waits; None if the session can't wait.
 pub fn wait<S: Steps>(steps: &mut S) -> Option<OneShotAnswer>
     ensures { S.shows steps.old (Waited (awaited result) ∷ []) steps.new }
 {

@@ -13,7 +13,7 @@ use crate::turn::Turn;
 use std::alloc::Global;
 use tab_model::{Command, Part, Reply, SharedReply};
 
-/// How many levels are still to end behind a part that is left out.
+/// The number of levels that are still to end after a part that is left out.
 fn passed(part: &Part, skipped: usize) -> usize
     requires some { 1 ≤ skipped }
     requires room { skipped < usize.MAX }

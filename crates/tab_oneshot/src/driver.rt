@@ -13,10 +13,10 @@ use crate::steps::Steps;
 use std::alloc::Global;
 use tab_model::{Command, Part, Parts, Reply, SharedReply};
 
-/// Runs a one-shot, whose command is `{transaction, Ops, Retries}`, on a seat.
+/// Runs a one-shot, whose command is `{transaction, Ops, Retries}`, on a session.
 ///
-/// The whole command is handed in first, and opens level 1; then the members of its list, in order, and the
-/// commit. Where the seat restarts it, it begins again with the first member, at most `Retries` times.
+/// It sends the whole command first, which opens level 1; then the members of its list, in order, and the commit. If
+/// the session restarts it, it begins again with the first member, at most `Retries` times.
 pub fn one_shot<S: Steps>(steps: &mut S, alloc: Global, command: Command) -> SharedReply
     requires { IsTrue (is_one_shot command) }
     ensures { (more : List Call) × S.shows steps.old more steps.new

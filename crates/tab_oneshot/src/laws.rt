@@ -7,7 +7,7 @@ ghost use Rattle.tab_model.specs.declared.data.Reply.{Reply as ReplyOf};
 ghost use Rattle.tab_oneshot.specs.Calls.{Call, agains};
 ghost use Rattle.tab_oneshot.specs.OneShots.{IsOneShot};
 
-/// The operations of a one-shot are handed in again at most as often as its retries say.
+/// A law: the operations of a one-shot are sent again at most as often as its retries say.
 pub fn attempts_are_limited()
     ensures { (parts : List PartOf) (retries : ℕ) (calls : List Call) (last : ReplyOf)
         → IsOneShot (command.OneShot parts retries) calls last → agains calls ≤ retries }

@@ -39,7 +39,7 @@ impl Drop for DriverLevels {
 }
 
 impl DriverLevels {
-    /// Level 1 alone, with no answers.
+    /// Only level 1, with no answers.
     pub fn new(alloc: Global) -> DriverLevels
         ensures { result ≡ none ∷ [] }
     {
@@ -49,7 +49,7 @@ impl DriverLevels {
         }
     }
 
-    /// Level 1 alone again, with no answers.
+    /// Goes back to only level 1, with no answers.
     pub fn clear(&mut self)
         ensures { self.new ≡ none ∷ [] }
     {
@@ -60,7 +60,7 @@ impl DriverLevels {
         self.inner.clear();
     }
 
-    /// How many stand around the innermost.
+    /// The number of levels around the innermost.
     pub fn around(&self) -> usize
         ensures { length self.now ≡ suc result }
     {
@@ -94,7 +94,7 @@ impl DriverLevels {
         Ok(())
     }
 
-    /// The answers of the innermost, which is no more; None where only level 1 is open.
+    /// Ends the innermost, and returns its answers; None if only level 1 is open.
     pub fn leave(&mut self) -> Option<Answers>
         ensures { Leaves self.old result self.new }
     {

@@ -1,4 +1,4 @@
-//! The driver of a one-shot: a transaction that is handed in as one command, run over a seat from outside the core.
+//! The driver of a one-shot: a transaction that is sent as one command, run on a session from outside the core.
 
 #![tactic(auto)]
 

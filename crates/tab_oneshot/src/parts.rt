@@ -1,4 +1,4 @@
-//! One part of an attempt: what is handed in for it, and what its answer leads to.
+//! One part of an attempt: the command that is sent for it, and the effect of its answer.
 
 ghost use Rattle.std.specs.Prelude.{◌≡◌, ◌∷◌, [], List, IsTrue, IfOk, OnOk};
 ghost use Rattle.tab_model.specs.declared.data.Command.TheVariants as command;
@@ -38,7 +38,7 @@ fn put_inner(inner: Answers, levels: &mut DriverLevels) -> Result<(), AllocError
     levels.put(tab_lists::Answer::Atomic(inner))
 }
 
-/// An operation's answer stands in its level.
+/// Puts an operation's answer into its level.
 fn tell<S: Steps>(
     steps: &mut S,
     alloc: Global,
@@ -76,7 +76,7 @@ fn end_level<S: Steps>(
     }
 }
 
-/// The answer of an ended level stands in the one around it.
+/// Puts the answer of an ended level into the one around it.
 fn tell_behind<S: Steps>(
     steps: &mut S,
     alloc: Global,
@@ -197,7 +197,7 @@ fn begin<S: Steps>(steps: &mut S, alloc: Global, levels: &mut DriverLevels) -> T
         × Serves part.Open levels.old more (turn_of result levels.new) }
 {
     let around = levels.around();
-    // Its place stands before it is begun: after that nothing of this is refused.
+    // Its memory is reserved before it begins: after that nothing of this is refused.
     if levels.begin(alloc).is_err() {
         return stop(steps, around, OneShotAnswer::no_memory());
     }
@@ -209,7 +209,7 @@ fn begin<S: Steps>(steps: &mut S, alloc: Global, levels: &mut DriverLevels) -> T
     }
 }
 
-/// The answers of a committed child stand in the level around it.
+/// Puts the answers of a committed child into the level around it.
 fn join<S: Steps>(steps: &mut S, answer: OneShotAnswer, levels: &mut DriverLevels) -> Turn
     ensures { (more : List Call) × S.shows steps.old more steps.new
         × Joins answer.reply levels.old more (turn_of result levels.new) }

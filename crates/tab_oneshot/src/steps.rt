@@ -1,4 +1,4 @@
-//! A seat that commands are handed to.
+//! The interface through which the driver sends commands to a session.
 
 ghost use Rattle.std.specs.Prelude.{◌≡◌, ◌∷◌, ◌++◌, [], List, IsTrue, IsOk};
 ghost use Rattle.tab_model.specs.Outcome.{is_abort};
@@ -7,9 +7,9 @@ ghost use Rattle.tab_oneshot.specs.Calls.{Call, Asked, Waited, Again, answer_in,
 use std::alloc::AllocError;
 use tab_model::{Command, SharedReply};
 
-/// A seat that commands are handed to, one after another.
+/// A session that the driver sends commands to, one after another.
 pub trait Steps {
-    /// From the first to the second, the seat was asked this, in order.
+    /// From the first to the second, the session received these calls, in order.
     ghost shows: { Self → List Call → Self → Type 0 };
 
     /// Hands a command in. An abort takes no memory.
@@ -17,13 +17,13 @@ pub trait Steps {
         ensures shown { shows self.old (Asked command (answer_in result) ∷ []) self.new }
         ensures abort { IsTrue (is_abort command) → IsOk result };
 
-    /// Waits for the answer of the operation that was handed in last and was answered `Waiting`. None where the
-    /// surroundings can't wait.
+    /// Waits for the answer of the operation that was sent last and was answered `Waiting`. None if the session can't
+    /// wait.
     fn wait(&mut self) -> Option<Result<SharedReply, AllocError>>
         ensures shown { shows self.old (Waited (waited_for result) ∷ []) self.new }
         ensures waited { IsNoWait result };
 
-    /// Says that the operations are handed in again, from the first.
+    /// Announces that the operations are sent again, from the first.
     fn again(&mut self)
         ensures { shows self.old (Again ∷ []) self.new };
 

@@ -1,10 +1,10 @@
 use tab_model::SharedReply;
 
-/// What follows an answer.
+/// The driver's next action after an answer.
 pub enum Turn {
     /// The next part.
     GoOn,
-    /// What stands behind the end of the level.
+    /// The part after the end of the level.
     Skip,
     /// Nothing: this is the reply.
     Over(SharedReply),

@@ -1,4 +1,4 @@
-//! Outboxes: where items are put for a subscriber, one after another, up to a capacity.
+//! Outboxes: items are put into one for a subscriber, one after another, up to a capacity.
 
 #![tactic(auto)]
 

@@ -7,7 +7,7 @@ ghost use Rattle.tab_outbox.specs.Mailboxes.{Tells};
 use crate::post::Post;
 use tab_model::SharedItem;
 
-/// What a post and an end that meet show.
+/// The result of a post and an end that meet.
 #[derive(Drop)]
 pub enum Met {
     /// They are of two mailboxes.
@@ -26,7 +26,7 @@ pub trait Mailbox: Post {
     /// All that was ever taken at an end.
     ghost taken: { Self.End → List ItemOf };
 
-    /// Which mailbox an end is of.
+    /// The number of an end's mailbox.
     ghost mailbox: { Self.End → ℕ };
 
     /// Takes one item more at the post's own end, or shows that all that was put is taken. While it has both nothing is

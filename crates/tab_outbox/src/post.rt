@@ -1,4 +1,4 @@
-//! Where items are put.
+//! The trait of posts, which items are put into.
 
 ghost use Rattle.std.specs.Prelude.{◌≡◌, [], ◌∷◌, OnOk, IfErr, IfSome, MatchOption, is_err, length, nat_le};
 ghost use Rattle.tab_model.specs.State.{Outbox};
@@ -8,15 +8,15 @@ ghost use Rattle.tab_outbox.specs.Posts.{refused_item, GivesFirst};
 use crate::refused::Refused;
 use tab_model::SharedItem;
 
-/// Where items are put for one subscriber.
+/// A post, which items are put into for one subscriber.
 pub trait Post {
-    /// What the post shows: its items, how often it refused, and its capacity where that decides.
+    /// The contents of the post: its items, the number of its refusals, and its capacity if that decides.
     ghost outbox: { Self → Outbox };
 
     /// The second is the first after some calls: the same mailbox, or a ring of the same capacity.
     ghost stays: { Self → Self → Type 0 };
 
-    /// Puts an item behind the others, or hands it back.
+    /// Puts an item after the others, or returns it.
     fn put(&mut self, item: SharedItem) -> Result<(), Refused>
         ensures stays { stays self.old self.new }
         ensures decided { IfSome (outbox self.old).capacity
@@ -33,7 +33,7 @@ pub trait Post {
             × (outbox self.new ≡ outbox self.old))
             (GivesFirst (outbox self.old) (outbox self.new)) };
 
-    /// How many puts were refused, up to the greatest 64 bit number.
+    /// The number of refused puts, up to the greatest 64 bit number.
     fn refusals(&self) -> u64
         ensures { result ≡ (outbox self.now).refusals };
 

@@ -70,6 +70,7 @@ impl NewMailbox {
                 channel: sender,
                 pass,
                 refusals: 0,
+                puts: 0,
                 place,
                 prefix: prefix.again(),
             },

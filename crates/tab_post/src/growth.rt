@@ -22,7 +22,7 @@ impl<E> Rule<E, u64> for Counted {
     ghost moves = { λ ask before after answer. Unit {0} };
 }
 
-/// Who adds has nothing from it.
+/// The adder gains nothing from it.
 pub struct NoGain;
 
 impl<E> Gain<E, u64> for NoGain {
@@ -31,7 +31,7 @@ impl<E> Gain<E, u64> for NoGain {
     ghost after = { λ names about answer. ftrue };
 }
 
-/// An entry is put behind all others, if there are as many as were seen.
+/// Appends an entry, if there are as many as were seen.
 pub struct Adding;
 
 impl<E> Play<E, u64> for Adding {

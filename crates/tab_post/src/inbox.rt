@@ -30,7 +30,7 @@ impl<H: Host> Inbox<H> {
     ghost use Rattle.std.specs.Prelude.{◌∷◌, ◌++◌, MatchOption};
     ghost use Rattle.tab_post.specs.Ends.{received, IsSameInbox};
 
-    /// The next item that was sent, which it waits for. None where it hears that the post was dropped and nothing is left.
+    /// Waits for the next item that was sent. None if the post was dropped and nothing is left.
     pub fn receive(&mut self) -> Option<SharedItem>
         ensures next { MatchOption result (received self.new ≡ received self.old)
             (λ x. received self.new ≡ received self.old ++ x ∷ []) }
@@ -41,7 +41,7 @@ impl<H: Host> Inbox<H> {
             .ok()
     }
 
-    /// The next item that was sent, where it is there already.
+    /// The next item that was sent, if it is there already.
     pub fn try_receive(&mut self) -> Option<SharedItem>
         ensures next { MatchOption result (received self.new ≡ received self.old)
             (λ x. received self.new ≡ received self.old ++ x ∷ []) }

@@ -1,13 +1,13 @@
 //! Mailboxes: a post of which items are taken at its other end, by another thread.
 //!
-//! A mailbox is a bounded channel under a rule: what was sent is what was taken, followed by what the channel holds. Each
-//! end holds a pass, which knows what that end did; so what a post sent and what an inbox took are lists that contracts
-//! speak of, and the two ends together show how they stand to each other.
+//! A mailbox is a bounded channel under a rule: the sent items are the taken ones, followed by the channel's. Each end
+//! holds a pass, which knows what that end did. So the items that a post sent and those that an inbox took are lists
+//! that contracts speak of, and the two ends together show how these lists relate.
 //!
-//! Its channel has a place in a register that only grows. Who has seen a beginning of the register knows for good what
-//! stands at each place of it. Each end keeps its place and what it saw of the register up to there: where two ends have
-//! one place, both saw the same channel there, and so they are the ends of one mailbox, which the program can compare.
-//! The register's entries are known to proofs alone: what runs is their number, in one word.
+//! Its channel has an index in a register that only grows. An owner of a seen beginning of the register knows for good
+//! the entry at each index of it. Each end keeps its index and its seen beginning of the register up to there. If two
+//! ends have one index, both saw the same channel there, and so they are the ends of one mailbox, which the program can
+//! compare. Only proofs know the register's entries: what runs is their number, in one word.
 
 #![tactic(auto)]
 

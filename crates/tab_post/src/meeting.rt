@@ -30,7 +30,7 @@ impl<H: Host> Mailbox for ChannelPost<H> {
             return Met::Apart;
         }
         self.prefix.agrees(&end.prefix, self.place);
-        // The two passes become one of both ends, which learns how what was taken stands to what was sent.
+        // The two passes become one of both ends, which learns how the taken items relate to the sent ones.
         let spare = self.channel.another::<Idle>(&mut self.pass);
         let taking = mem::replace(&mut end.pass, spare);
         self.channel.absorb::<Ends>(&mut self.pass, taking);

@@ -12,7 +12,7 @@ use crate::rule::{InOrder, PassView, Sent};
 use crossbeam_channel::{Pass, RuledSender, TrySendError};
 use tab_outbox::{Post, Refused, SharedItem};
 
-/// What names a mailbox: its channel, as its sender knows it.
+/// The name of a mailbox: its channel, as its sender knows it.
 pub type Channel = RuledSender<SharedItem, PassView, InOrder>;
 
 /// The sending end of a mailbox.
@@ -22,11 +22,20 @@ pub struct ChannelPost<H: Host> {
     pub(crate) channel: Channel,
     pub(crate) pass: Pass<SharedItem, PassView>,
     pub(crate) refusals: u64,
+    /// How many items it took.
+    pub(crate) puts: u64,
     pub(crate) place: u64,
     pub(crate) prefix: Prefix<Channel, H>,
     ghost seated: { IsSeatAt (sends_on channel) pass },
     ghost role: { view pass ≡ pass_view true false (view pass).sent [] },
     ghost stands: { IsHeldAt prefix place (sends_on channel) },
+}
+
+impl<H: Host> ChannelPost<H> {
+    /// How many items were put, up to the greatest 64 bit number.
+    pub fn puts(&self) -> u64 {
+        self.puts
+    }
 }
 
 impl<H: Host> Post for ChannelPost<H> {
@@ -61,7 +70,10 @@ impl<H: Host> Post for ChannelPost<H> {
             .channel
             .try_send_as::<Sent, H>(&self.rt, &mut self.pass, item)
         {
-            Ok(()) => Ok(()),
+            Ok(()) => {
+                self.puts = self.puts.saturating_add(1);
+                Ok(())
+            }
             Err(TrySendError::Full(item)) => {
                 self.refusals = self.refusals.saturating_add(1);
                 Err(Refused::Full(item))

@@ -31,7 +31,7 @@ impl<E, J: Naming> Model for Prefix<E, J> {
 }
 
 impl<E, J: Naming> Prefix<E, J> {
-    /// How many mailboxes were seen.
+    /// The number of mailboxes that were seen.
     pub fn len(&self) -> u64
         ensures { result ≡ length self.now }
     {
@@ -58,7 +58,7 @@ impl<E, J: Naming> Prefix<E, J> {
         both.learn(&other.seen);
     }
 
-    /// Puts an entry behind those that were seen, if the register has no others. Else it has seen more of the register.
+    /// Adds an entry after those that were seen, if the register has no others. Else it has seen more of the register.
     pub fn add(&mut self, register: &Register<E, J>, entry: &E) -> bool
         requires room { length self.old < 2 ^ 64 - 1 }
         ensures added { MatchBool result (self.new ≡ self.old ++ entry.now ∷ [])

@@ -3,7 +3,8 @@ use crossbeam_channel::protocol::{Join, Lesson, Outcome, Protocol, Split};
 use std::collections::LinkedList;
 use tab_outbox::SharedItem;
 
-/// What a pass knows: which ends it stands for, what was sent by it and what was taken by it. No value of it is made.
+/// The knowledge of a pass: the ends that it is for, the items sent by it and those taken by it. No value of it is
+/// made.
 pub struct PassView {
     pub sends: bool,
     pub takes: bool,
@@ -11,7 +12,7 @@ pub struct PassView {
     pub taken: LinkedList<SharedItem>,
 }
 
-/// What was sent is what was taken, followed by what the channel holds.
+/// The sent items are the taken ones, followed by the channel's.
 pub struct InOrder;
 
 impl Protocol<SharedItem, PassView> for InOrder {
@@ -44,7 +45,7 @@ impl Join<PassView> for Ends {
     ghost spent = { pass_view false false [] [] };
 }
 
-/// A further pass, which stands for no end.
+/// A further pass, which is for no end.
 pub struct Idle;
 
 impl Split<PassView> for Idle {
@@ -83,7 +84,7 @@ impl Outcome<SharedItem, PassView> for Taken {
     ghost then = { λ v x w. w ≡ pass_view v.sends v.takes v.sent (v.taken ++ x ∷ []) };
 }
 
-/// A pass that takes alone learns nothing of an empty channel, since more may be sent at once.
+/// A pass that only takes learns nothing of an empty channel, since more may be sent at once.
 impl Lesson<SharedItem, PassView> for Taken {
     ghost use Rattle.std.specs.Prelude.{⊤};
 

@@ -1,4 +1,4 @@
-//! The arguments of a request, taken out of its term where they have the form that a command wants.
+//! The arguments of a request, taken out of its term if they have the form that a command wants.
 
 ghost use Rattle.std.specs.Prelude.{◌≡◌, IfOk, OnErr, IsTrue, IsFalse};
 ghost use Rattle.tab_term.specs.Data.{atom, list, pair, is_atom, is_list};

@@ -1,4 +1,4 @@
-//! A tuple that begins with a word, as the calls of the manuals do: the word, and the arguments behind it.
+//! A tuple that begins with a word, as the calls of the manuals do: the word, and the arguments after it.
 
 ghost use Rattle.std.specs.Prelude.{◌≡◌, ◌<◌, ◌+◌, ◌-◌, IfOk, OnErr, IsFalse, slice_index_or, take};
 ghost use Rattle.std.specs.Vec.{vec_len};

@@ -130,7 +130,7 @@ fn index_term(
     Ok(Term::Tuple(Terms::from_vec(parts)))
 }
 
-/// `{subscribe, {table, Tab, Level}}`, and `dump` behind it where a dump is asked.
+/// `{subscribe, {table, Tab, Level}}`, and `dump` after it if a dump is asked for.
 fn subscription_term(
     alloc: Global,
     table: &Atom,

@@ -187,7 +187,7 @@ fn one_shot(alloc: Global, members: Term, retries: &Term) -> Result<Command, Pro
     Ok(Command::OneShot(parts, retries))
 }
 
-/// How often a one-shot may restart: 0 to 1,000.
+/// The number of times that a one-shot may restart: 0 to 1,000.
 fn retries_of(held: &Term) -> Result<u64, NoCommand>
     ensures ok { IfOk result (λ n. (term held.now ≡ int (pos n)) × (IsTrue (nat_le n 1000))) }
     ensures bad { OnErr result (IsFalse (is_retries (term held.now))) }

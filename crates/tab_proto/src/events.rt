@@ -16,7 +16,7 @@ use tab_etf::{
 use tab_lists::{EventTerm, EventTerms};
 use tab_model::{Item, Reply};
 
-/// How a commit's events are sent.
+/// The form in which a commit's events are sent.
 #[derive(Clone, Copy, Debug, PartialEq, Eq)]
 pub enum Delivery {
     /// A frame for each event.
@@ -25,7 +25,7 @@ pub enum Delivery {
     Batches,
 }
 
-/// Adds the frames of an item that is sent so. On an error those before one of them stand.
+/// Appends the frames of an item in this form. On an error the frames before the failed one stay.
 pub fn append_item(item: &Item, delivery: Delivery, out: &mut Vec<u8>) -> Result<(), EncodeFault>
     ensures ok { OnOk result (out.new.items ≡ out.old.items ++ sent_frames delivery item.now) }
     ensures err { IfErr result
@@ -60,7 +60,7 @@ fn append_events(events: &EventTerms, out: &mut Vec<u8>) -> Result<(), EncodeFau
     Ok(())
 }
 
-/// Adds the one frame of an item that is told whole.
+/// Appends the one frame of an item that is sent whole.
 fn append_whole(item: &Item, out: &mut Vec<u8>) -> Result<(), EncodeFault>
     ensures ok { OnOk result
         (out.new.items ≡ out.old.items ++ frame (131 ∷ canon (item_term item.now))) }
@@ -70,7 +70,7 @@ fn append_whole(item: &Item, out: &mut Vec<u8>) -> Result<(), EncodeFault>
     append_outline(&item_outline(item), out)
 }
 
-/// An event alone.
+/// The outline of an event by itself.
 fn event_outline(event: &EventTerm) -> Outline<'_>
     ensures { IsOutlineOf result (event_term event.now) }
 {
@@ -132,7 +132,7 @@ fn write_events<W: Target>(device: &mut W, events: &EventTerms) -> Result<(), Fr
     Ok(())
 }
 
-/// Writes the one frame of an item that is told whole.
+/// Writes the one frame of an item that is sent whole.
 fn write_whole<W: Target>(device: &mut W, item: &Item) -> Result<(), FrameFault>
     ensures ok { OnOk result
         (Appends (W.contents device.old) (W.contents device.new)

@@ -1,9 +1,9 @@
-//! Why a term was not read.
+//! Faults of a term that is read.
 
 use std::alloc::{AllocError, AllocFailed};
 use thiserror::Error;
 
-/// Why a term is no command.
+/// The reason that a term is no command.
 #[derive(Clone, Copy, Debug, PartialEq, Eq, Error)]
 pub enum ProtoFault {
     /// The term is none of the commands.

@@ -3,7 +3,7 @@
 ghost use Rattle.std.specs.Prelude.{◌≡◌, IfSome};
 ghost use Rattle.tab_proto.specs.FirstWords.{unary_in, unary_text, binary_in, binary_text};
 
-/// A word with one argument. Transaction has one inside a one-shot alone.
+/// A word with one argument. Transaction has one only inside a one-shot.
 #[derive(Clone, Copy, Debug, PartialEq, Eq)]
 pub enum Unary {
     Abort,
@@ -33,12 +33,12 @@ pub enum Binary {
     Transaction,
 }
 
-/// What a request of two elements asks, by the first of them.
+/// The command of a request of two elements, by the first of them.
 pub fn unary_of(word: &str) -> Option<Unary>
     ensures known { result ≡ unary_in word.now }
     ensures text { IfSome result (λ u. word.now ≡ unary_text u) }
 {
-    // What transactions ask most comes first: a word is compared with each before its own.
+    // The most frequent words come first: a word is compared with each before its own.
     match word {
         "write" => Some(Unary::Write),
         "wread" => Some(Unary::ReadForWrite),
@@ -57,7 +57,7 @@ pub fn unary_of(word: &str) -> Option<Unary>
     }
 }
 
-/// What a request of three elements asks, by the first of them.
+/// The command of a request of three elements, by the first of them.
 pub fn binary_of(word: &str) -> Option<Binary>
     ensures known { result ≡ binary_in word.now }
     ensures text { IfSome result (λ b. word.now ≡ binary_text b) }

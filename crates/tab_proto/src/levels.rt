@@ -57,7 +57,7 @@ impl OpenTransaction {
     }
 }
 
-/// The transactions that stand open, outermost first. Contracts see them innermost first.
+/// The open transactions, outermost first. Contracts see them innermost first.
 #[derive(Drop)]
 struct OpenTransactions {
     open: Vec<OpenTransaction>,
@@ -85,7 +85,7 @@ impl OpenTransactions {
         }
     }
 
-    /// A transaction more stands open.
+    /// Opens one more transaction.
     fn begin(&mut self, level: OpenTransaction) -> Result<(), AllocError>
         ensures { OnOk result (self.new ≡ level ∷ self.old) }
     {
@@ -93,7 +93,7 @@ impl OpenTransactions {
         Ok(())
     }
 
-    /// The operation stands first in the innermost.
+    /// Puts the operation first in the innermost.
     fn put_first(&mut self, operation: Term) -> Result<(), AllocError>
         ensures { OnOk result (self.new ≡ with_first (term operation) self.old) }
     {

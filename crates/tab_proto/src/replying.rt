@@ -21,7 +21,7 @@ use tab_lists::SharedTerms;
 use tab_model::{Ending, Item, Kind, Level, Limit, Reply, TableInfo};
 use tab_term::{Atom, Term};
 
-/// Writes the frame of `{Session, Reply}`, or of `{reply, Reply}` where no session is named.
+/// Writes the frame of `{Session, Reply}`, or of `{reply, Reply}` if no session is named.
 ///
 /// It takes no memory. At `Device` a beginning of the frame is written; at `FrameTooLong` nothing is.
 pub fn write_reply<W: Target>(
@@ -58,7 +58,8 @@ pub fn append_reply(
     }
 }
 
-/// Adds the frame of a reply by its outline. It stands apart, since a function pays for an outline's room where it makes none, too.
+/// Appends the frame of a reply by its outline. It is a function of its own, since a function pays for an outline's
+/// room even if it makes none.
 fn append_long(session: Option<u32>, reply: &Reply, out: &mut Vec<u8>) -> Result<(), EncodeFault>
     requires { IsTrue (is_long reply.now) }
     ensures ok { OnOk result
@@ -70,11 +71,11 @@ fn append_long(session: Option<u32>, reply: &Reply, out: &mut Vec<u8>) -> Result
     append_outline(&behind(first_of(reply, session), long_outline(reply)), out)
 }
 
-/// Adds the frame that `write_reply` writes, in one walk of each list that the reply holds.
+/// Appends the frame that `write_reply` writes, in one walk of each list that the reply has.
 ///
-/// On false the frame takes more than so many bytes, where a list counts with each of its elements, also one that is written as a
-/// string. It is told of what was found and of a one-shot's answers alone, of which no frame of more bytes is added. On false and on
-/// an error the bytes are as before.
+/// It returns false if the frame takes more than `most` bytes; a list counts with each of its elements, also one that
+/// is written as a string. Only a list of records and a one-shot's answers are refused so, and none of these of more
+/// bytes is appended. On false and on an error the bytes are as before.
 pub fn append_reply_within(
     session: Option<u32>,
     reply: &Reply,
@@ -108,7 +109,7 @@ pub fn append_reply_within(
     Ok(within)
 }
 
-/// The number of the session, or `reply` where none is named.
+/// The number of the session, or `reply` if none is named.
 fn first_of<'a>(_reply: &'a Reply, session: Option<u32>) -> Token<'a>
     ensures term { (r : ReplyOf)
         → response session r ≡ pair_of (token_term result) (reply_term_of r) }
@@ -120,7 +121,7 @@ fn first_of<'a>(_reply: &'a Reply, session: Option<u32>) -> Token<'a>
     }
 }
 
-/// An outline in a pair behind this token.
+/// An outline in a pair after this token.
 fn behind<'a>(first: Token<'a>, told: Outline<'a>) -> Outline<'a>
     requires first { IsShortToken first }
     requires alone { told.first ≡ None }
@@ -203,7 +204,7 @@ fn long_outline(reply: &Reply) -> Outline<'_>
     }
 }
 
-// What is told of a reply that lends nothing is lent for as long as the reply, like what the others lend.
+// The lifetime of a part that borrows nothing is that of the reply, as for the parts that borrow from it.
 
 fn word<'a>(_reply: &'a Reply, text: &'static str) -> Brief<'a>
     requires { length text.now ≤ 255 }
@@ -393,7 +394,7 @@ fn kind_word(kind: Kind) -> &'static str
     }
 }
 
-/// The word for how events are told: `simple` or `detailed`.
+/// The word for the level of events: `simple` or `detailed`.
 pub fn level_word(level: Level) -> &'static str
     ensures word { atom result.now ≡ level_word_of level }
     ensures short { length result.now ≤ 255 }

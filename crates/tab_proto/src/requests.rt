@@ -29,7 +29,7 @@ pub fn read_request(alloc: Global, held: Term) -> Result<(u32, Ask<()>), ProtoFa
     Ok((session, read_asked(alloc, asked)?))
 }
 
-/// The number in `{Session, X}`, whatever X is. None where the term is no such pair, or the number is none of a session.
+/// The number in `{Session, X}`, whatever X is. None if the term is no such pair, or the number is none of a session.
 pub fn session_of(held: &Term) -> Option<u32>
     ensures some { IfSome result (λ n. IsNumbered (term held.now) n) }
     ensures none { IfNone result (HasNoNumber (term held.now)) }
@@ -62,12 +62,12 @@ fn read_asked(alloc: Global, asked: Term) -> Result<Ask<()>, ProtoFault>
     Ok(Ask::Do(read_command(alloc, asked)?))
 }
 
-/// What a word asks.
+/// The request of a single word.
 fn word_alone(word: &Atom) -> Result<Ask<()>, NoCommand>
     ensures ok { IfOk result (λ r. (asked_term r ≡ atom word.now) × IsRequest r) }
     ensures bad { OnErr result (IsFalse (is_word_alone word.now)) }
 {
-    // What each transaction asks comes first: a word is compared with each before its own.
+    // The words of each transaction come first: a word is compared with each before its own.
     match word.as_str() {
         "begin" => Ok(Ask::Do(Command::Begin)),
         "commit" => Ok(Ask::Do(Command::Commit)),

@@ -10,8 +10,8 @@ use std::alloc::{AllocError, Global};
 use tab_lists::Answer;
 use tab_model::{Reply, SharedReply};
 
-/// The answer that a reply to an operation or to an abort is. A list is handed on as it stands:
-/// memory is taken for the reason of an abort alone.
+/// The answer for a reply to an operation or to an abort. A list is passed on as it is: memory is taken only for the
+/// reason of an abort.
 pub fn answer_of(alloc: Global, told: SharedReply) -> Result<Answer, AllocError>
     requires { IsTrue (is_told told) }
     ensures { IfOk result (λ a. answer_term a ≡ reply_term told) }

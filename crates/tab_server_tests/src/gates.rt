@@ -1,5 +1,5 @@
-//! A first session's call that is held until a second's was answered; and the same on a server that makes calls one after
-//! another, which has to be found.
+//! A first session's call that is blocked until a second's was answered; and the same on a server that makes calls one
+//! after another, which has to be found.
 
 ghost use Rattle.std.specs.Prelude.{◌≡◌};
 
@@ -25,8 +25,8 @@ const TURNS: u32 = 10_000;
 /// If calls are made one after another the second is never answered meanwhile, so a few turns are enough.
 const FEW_TURNS: u32 = 100;
 
-/// Holds session 1's first call until session 2's first was answered, for so many milliseconds at most. Where calls are served
-/// one after another it gives up.
+/// Blocks session 1's first call until session 2's first was answered, for at most `turns` milliseconds. If calls are
+/// served one after another it gives up.
 #[derive(Drop)]
 struct Held<R> {
     rt: R,
@@ -45,13 +45,13 @@ impl<R: Threads + Clock> Held<R> {
         }
     }
 
-    /// Whether session 2 was answered while session 1's call waited.
+    /// Returns whether session 2 was answered while session 1's call waited.
     fn is_passed(&self) -> bool {
         self.answered.load(Ordering::SeqCst) && !self.gave_up.load(Ordering::SeqCst)
     }
 }
 
-/// Whether the flag is set within so many milliseconds.
+/// Returns whether the flag is set within so many milliseconds.
 fn wait_for<R: Threads + Clock>(rt: &R, flag: &AtomicBool, turns: u32) -> bool {
     for _ in 0..turns {
         if flag.load(Ordering::SeqCst) {
@@ -167,7 +167,7 @@ fn serve_all<H: Host + Threads + Send + Sync, G: Gate + Notes + Sync>(
     }
 }
 
-/// Serves so many connections, beside clients that ask.
+/// Serves `count` connections while clients send requests.
 fn beside<H, R, G>(
     host: &H,
     rt: &R,

@@ -1,4 +1,4 @@
-//! A client that doesn't read: its event thread is held in a write while others commit.
+//! A client that doesn't read: its event thread is blocked in a write while others commit.
 
 ghost use Rattle.std.specs.Prelude.{◌≡◌};
 
@@ -19,7 +19,7 @@ use tab_term::Terms;
 use tab_test_tools::Shape::{Atom, Int, Tuple};
 use tab_test_tools::{Shape, atom, build};
 
-/// What is written, and whether writes are held.
+/// The written bytes, and whether writes are blocked.
 #[derive(Drop)]
 struct Pipe {
     written: Mutex<Vec<u8>>,
@@ -56,7 +56,7 @@ impl<'a, H: Host> Write for Held<'a, H> {
 static FRAMES: &[u8] =
     b"\x00\x00\x00\x22\x83h\x03w\x12mnesia_table_beginw\x01tw\x06simple\x00\x00\x003\x83h\x02w\x12mnesia_table_eventh\x03w\x05writeh\x03w\x01ta\x01w\x01ah\x02w\x03tida\x01\x00\x00\x003\x83h\x02w\x12mnesia_table_eventh\x03w\x05writeh\x03w\x01ta\x02w\x01ah\x02w\x03tida\x02\x00\x00\x00\x16\x83h\x02w\x0fmnesia_overflowa\x03";
 
-/// What commits 1 to 3 write.
+/// The records that commits 1 to 3 write.
 static RECORDS: [Shape; 3] = [
     Tuple(&[Atom("t"), Int(1), Atom("a")]),
     Tuple(&[Atom("t"), Int(2), Atom("a")]),
@@ -70,7 +70,7 @@ fn is_committed(reply: &Reply, wanted: u64) -> bool {
     }
 }
 
-/// Whether a record is written and committed, as the commit with this number.
+/// Returns whether a record is written and committed, as the commit with this number.
 fn commit<H: Host>(
     host: &H,
     alloc: Global,
@@ -86,7 +86,7 @@ fn commit<H: Host>(
     Ok(is_committed(told.reply(), number))
 }
 
-/// How many items were there for a session; None where it overflowed or left.
+/// The number of items that were there for a session; None if it overflowed or left.
 fn taken<H: Host>(host: &H, shared: &Shared<H>, seat: &Seat, inbox: &mut Inbox<H>) -> Option<u32> {
     let mut count = 0u32;
     for _ in host.forever() {
@@ -117,8 +117,8 @@ fn wait_for<H: Host>(host: &H, pipe: &Pipe, size: usize) {
     }
 }
 
-/// Three commits while the event thread is held, of which the writer itself gets each event; then what that thread writes,
-/// and the reader leaves.
+/// Makes three commits while the event thread is blocked, of which the writer itself gets each event. Then that thread
+/// writes, and the reader leaves.
 fn commit_all<H: Host>(
     host: &H,
     alloc: Global,

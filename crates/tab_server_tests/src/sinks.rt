@@ -1,4 +1,4 @@
-//! A sink whose writer fails once, inside a frame, and would take bytes again behind that.
+//! A sink whose writer fails once, inside a frame, and would take bytes again after that.
 
 use std::alloc::Global;
 use std::io::{self, Write};
@@ -39,7 +39,7 @@ static SENT: [(&[u8], bool); 5] = [
     (b"mnop", false),
 ];
 
-/// Whether each frame is written that is to be, and of the broken one a beginning and nothing behind it.
+/// Returns whether each frame that has to be written is, and of the broken one a beginning and nothing after it.
 fn is_broken_for_good<R: Wait>(rt: &R, alloc: Global) -> bool {
     let written = Mutex::new(Vec::new(alloc));
     let sink = FrameSink::new(Once {

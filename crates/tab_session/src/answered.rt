@@ -1,6 +1,6 @@
 use tab_model::SharedReply;
 
-/// A reply under the number of the session that asked, or under 0 where none could be read.
+/// A reply under the number of the session that asked, or under 0 if none could be read.
 pub struct PayloadReply {
     pub session: u32,
     pub reply: SharedReply,

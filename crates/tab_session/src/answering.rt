@@ -94,7 +94,7 @@ fn reply_to(
     }
 }
 
-/// A session joins with a post of its own, which is made where the session may join.
+/// Joins a session with a post of its own, which is created if the session may join.
 fn join(core: &mut Core<RingPost>, alloc: Global, outbox: usize, session: u32) -> SharedReply
     ensures { StepMadeOrRefused core.old session (Join (empty_post outbox)) result core.new }
 {
@@ -107,7 +107,7 @@ fn join(core: &mut Core<RingPost>, alloc: Global, outbox: usize, session: u32) -
     }
 }
 
-/// What a session is told that may not join.
+/// The refusal of a session that may not join.
 fn join_refusal(core: &Core<RingPost>, session: u32) -> Option<Reply>
     ensures { MatchOption result (JoinTakesMemory core.now session)
         (IsJoinRefused core.now session) }
@@ -169,7 +169,8 @@ fn reply_of(step: Result<Stepped, AllocError>) -> SharedReply
 #[derive(Clone, Copy, Debug, PartialEq, Eq)]
 pub struct Unkept;
 
-/// Adds the frame of `{Session, Reply}`, where that takes no more than so many bytes, or holds no list. On an error the bytes are as before.
+/// Appends the frame of `{Session, Reply}` if it takes at most `most` bytes, or has no list. On an error the bytes are
+/// as before.
 #[tactic(auto, unfolding(crate::specs::AnsweredPayloads::answer_frame))]
 pub fn put_answer(answer: &PayloadReply, most: usize, out: &mut Vec<u8>) -> Result<(), Unkept>
     ensures ok { OnOk result (out.new.items ≡ out.old.items ++ answer_frame answer.now) }

@@ -1,12 +1,12 @@
-//! Why a replay ends.
+//! The reasons of a replay's end.
 
 use tab_etf::Broken;
 use thiserror::Error;
 
-/// Why a replay ended before its stream did, or inside a frame.
+/// The reason that a replay ended before its stream did, or inside a frame.
 #[derive(Clone, Copy, Debug, PartialEq, Eq, Error)]
 pub enum Ended {
-    /// The stream ends inside a frame, or a length over 1,048,576 stands in it.
+    /// The stream ends inside a frame, or has a length over 1,048,576.
     #[error("damaged input")]
     Damaged,
     /// A read, a write or a flush failed.

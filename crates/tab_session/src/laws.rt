@@ -23,11 +23,16 @@ ghost use Rattle.tab_session.specs.OneSessions.{IsDriven};
 ghost use Rattle.tab_session.specs.PartsAlone.{run_alone};
 ghost use Rattle.tab_session.specs.Replays.{IsRun};
 
-/// A run is one of the model: whatever log and taken items led to its first state, they go on with it, with the log of its steps
-/// (`account`), those of one-shots' drivers among them. So from a new core the log of a run is legal, the tables are those of the
-/// log's commits run alone in order, open transactions were told what they are told alone, and what each session has taken is a
-/// beginning of what the log owes it. That log is the one that the run's callers can tell, who see what they asked and were told,
-/// and nothing of the state.
+/// A law: a run is one of the model. Take any log and taken items that led to its first state. They go on with the run,
+/// with the log of its steps (`account`), those of one-shots' drivers among them.
+///
+/// So from a new core:
+///
+/// - The log of a run is legal, and the tables are those of the log's commits run serially in order.
+/// - The replies of open transactions are those of running them by themselves.
+/// - The items that each session has taken are a beginning of those that the log gives it.
+/// - That log is the one that the run's callers can reconstruct. They see only their requests and replies, and nothing
+///   of the state.
 pub fn runs_have_a_history()
     ensures sound { (outbox : ℕ) (σ : State) (ps : List (List ℕ)) (xs : List AnswerOf)
         (s : IsRun outbox σ ps xs) → IsSound σ → IsSound s.last }
@@ -47,8 +52,9 @@ pub fn runs_have_a_history()
         AreObserved s.last (observe_all h (calls_in a.exchanges) (replies_in a.exchanges)).callers }
 {}
 
-/// There is one answer to each payload; and where no memory was refused, the payloads alone say which: two runs over the
-/// same payloads say the same, from a state whose posts all have a capacity, as they have in a replay.
+/// A law: there is one answer to each payload. If no memory was refused, the answers depend only on the payloads. Two
+/// runs over the same payloads give the same answers, from a state whose posts all have a capacity, as they have in a
+/// replay.
 pub fn an_answer_follows()
     ensures each { (outbox : ℕ) (σ : State) (ps : List (List ℕ)) (xs : List AnswerOf)
         → IsRun outbox σ ps xs → length xs ≡ length ps }
@@ -57,14 +63,14 @@ pub fn an_answer_follows()
         → IsRun outbox σ ps ys → xs ≡ ys }
 {}
 
-/// Where all payloads are of one session, and no other sits, no answer is a wait or a restart.
+/// A law: if all payloads are of one session, and no other is joined, no answer is a wait or a restart.
 pub fn one_session_never_waits()
     ensures { (outbox n : ℕ) (σ : State) (ps : List (List ℕ)) (xs : List AnswerOf) → AreOf n ps
         → IsSole n σ → IsRun outbox σ ps xs → NoneWaits xs }
 {}
 
-/// A one-shot that is driven on a session with no transaction leaves it with none, whatever the reply; and where each queued
-/// request is of an open transaction, as in every reached state, it leaves none of its own. Its parts nest, as those of every
+/// A law: a one-shot on a session with no transaction leaves it with none, whatever the reply. If each queued request
+/// is of an open transaction, as in every reached state, it leaves none of its own. Its parts nest, as those of every
 /// request do.
 pub fn a_one_shot_leaves_nothing_open()
     ensures levels { (σ μ : State) (n : ℕ) (c : CommandOf) (r : ReplyOf) → IsTrue (is_command c)
@@ -73,10 +79,10 @@ pub fn a_one_shot_leaves_nothing_open()
         → IsRising σ → transaction_at σ n ≡ None → IsDriven σ n c r μ → IsFalse (is_waiting μ n) }
 {}
 
-/// The reply says what such a one-shot has done. With `{atomic, Replies}` it has committed once, and Replies and the tables are
-/// what its parts come to alone, on the tables before it and with the next age, however often it began anew and whoever else
-/// sits; its log is that commit, which was told what it is told alone. With any other reply it has committed nothing, the tables
-/// are as before it, and it has no log.
+/// A law: the reply reports the effect of such a one-shot. With `{atomic, Replies}` it has committed once. Replies and
+/// the tables are those of running its parts by themselves, on the tables before it and with the next age. Its restarts
+/// and the other sessions make no difference. Its log is that commit, with the replies of that run. With any other
+/// reply it has committed nothing, the tables are as before it, and it has no log.
 pub fn a_one_shot_is_told_what_it_did()
     ensures commit { (σ μ : State) (n : ℕ) (c : CommandOf) (ts : PlainTerms) → IsTrue (is_command c)
         → transaction_at σ n ≡ None → IsDriven σ n c (reply.AtomicTerms ts) μ

@@ -30,7 +30,7 @@ fn hand_in(
     }
 }
 
-/// One session, where no one can wait.
+/// A session of the core, which can't wait for another.
 pub struct OneSession<'a> {
     core: &'a mut Core<RingPost>,
     session: u32,

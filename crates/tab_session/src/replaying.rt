@@ -37,7 +37,7 @@ fn run_all<R: Source, W: Target>(
         → HasFlushed result (W.is_flushed output.new) }
 {
     for round in 0..u64::MAX {
-        // How it ends where nothing more comes; and so no whole frame is held.
+        // The result if nothing more comes; and so no whole frame is left.
         let end = end_of_stream(splitter);
         let count = input.get(piece)?;
         if count == 0 {
@@ -48,7 +48,7 @@ fn run_all<R: Source, W: Target>(
     end_of_stream(splitter)
 }
 
-/// The stream is damaged where it ends inside a frame.
+/// The stream is damaged if it ends inside a frame.
 fn end_of_stream(splitter: &Splitter) -> Result<(), Ended>
     ensures found { splitter.now.over ≡ None → payloads splitter.now.rest ≡ [] }
     ensures ok { OnOk result (rest_of splitter.now.rest ≡ []) }
@@ -62,10 +62,14 @@ fn end_of_stream(splitter: &Splitter) -> Result<(), Ended>
 }
 
 /// Reads the frames of a stream, and writes the frames of their replies, in order, with a flush after each piece. Each
-/// session's post holds so many items as `outbox` says.
+/// session's post has room for `outbox` items.
 ///
-/// The replies to all whole frames are written before it ends as `Damaged`; before `TooLong`, those to the first frames,
-/// whole; before `NoMemory`, those to all frames of what was read but one last piece; before `Device`, a beginning of them.
+/// The replies that are written before it ends depend on the end:
+///
+/// - `Damaged`: those to all whole frames.
+/// - `TooLong`: those to the first frames, whole.
+/// - `NoMemory`: those to all frames that were read, except those of one last piece.
+/// - `Device`: a beginning of them.
 pub fn replay<R: Source, W: Target>(
     alloc: Global,
     input: &mut R,

@@ -13,7 +13,7 @@ use tab_core::Core;
 use tab_etf::{Frame, FrameFault, Splitter, Target, give_all};
 use tab_outbox::RingPost;
 
-/// So many bytes of replies are kept before they are written.
+/// The bytes of replies that are buffered before they are written.
 const KEPT: usize = 65_536;
 
 /// A frame of more bytes is written by itself.
@@ -28,8 +28,8 @@ fn payload_in(frame: &Frame) -> &[u8]
     }
 }
 
-/// Keeps the frame of a reply until there are some to be written at once. Where it is long, or no memory is found to keep it in, what is
-/// kept is written, and then this frame by itself.
+/// Buffers the frame of a reply until there are enough to be written at once. If it is long, or memory for it is
+/// refused, the buffer is written, and then this frame by itself.
 fn put<W: Target>(answer: &PayloadReply, buffer: &mut Vec<u8>, output: &mut W) -> Result<(), Ended>
     ensures handed { Handed answer.now (W.contents output.old)
         (W.contents output.new) buffer.old.items buffer.new.items result }

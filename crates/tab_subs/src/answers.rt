@@ -1,7 +1,7 @@
 //! What a session is answered.
 use tab_model::SharedItem;
 
-/// What a Take gives: the next item, else the number of an overflow, which is told once, else nothing.
+/// The result of a Take: the next item, else the number of an overflow, which is reported once, else nothing.
 #[derive(Drop)]
 pub enum Taken {
     Item(SharedItem),
@@ -9,7 +9,7 @@ pub enum Taken {
     Empty,
 }
 
-/// Whether a marker was put into the post, or refused by it.
+/// The result of a marker: the post took it, or refused it.
 #[derive(Clone, Copy, Debug, PartialEq, Eq)]
 pub enum Marked {
     Put,

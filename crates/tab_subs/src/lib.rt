@@ -1,6 +1,6 @@
 //! The joined sessions: each with its open transaction, its subscriptions, and the post that its items are put into.
 //!
-//! What is due for a commit is prepared first, with all memory that it takes, and then delivered, which can't fail.
+//! The items of a commit are prepared first, with all memory that they take, and then delivered, which can't fail.
 
 #![tactic(auto)]
 

@@ -10,8 +10,8 @@ use tab_events::{Event, Item, Level, shape};
 use tab_lists::{EventTerms, SharedEvent};
 use tab_model::SharedItem;
 
-/// The only event of a commit, with the items that were made of it, at most one a level: all who watch at the level are given
-/// the same.
+/// The only event of a commit, with the items that were made of it, at most one a level. All subscribers at a level
+/// share its item.
 #[derive(Drop)]
 pub struct OnlyEvent<'a> {
     commit: u64,
@@ -51,7 +51,7 @@ impl<'a> OnlyEvent<'a> {
         }
     }
 
-    /// The item for who watches the event's table at this level. None of who does not watch it.
+    /// The item for a session that watches the event's table at this level. None if it does not watch it.
     pub fn due(
         &mut self,
         alloc: Global,
@@ -81,7 +81,7 @@ impl<'a> OnlyEvent<'a> {
     }
 }
 
-/// A share of the item that is kept for the level, which is made where none is.
+/// Returns a share of the level's item, which it creates if there is none.
 fn share_of(
     alloc: Global,
     commit: u64,

@@ -1,4 +1,4 @@
-//! What is due, ready to be delivered.
+//! The items of a commit, ready to be delivered.
 
 ghost use Rattle.std.specs.Prelude.{◌≡◌, ◌+◌, ◌≤◌, map, option_to_list, IfOk, IsSome, length};
 ghost use Rattle.tab_subs.specs.Deliveries.{first_of, rest_of};
@@ -9,7 +9,7 @@ use std::marker::Model;
 use tab_model::SharedItem;
 use tab_term::Atom;
 
-/// What a commit or a table's deletion owes to each session, with all memory that its delivery takes.
+/// The items of a commit or of a table's deletion for each session, with all memory that their delivery takes.
 #[derive(Drop)]
 pub struct Prepared {
     pub(crate) number: u64,

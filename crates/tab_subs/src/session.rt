@@ -30,7 +30,7 @@ pub struct Session<P: Post> {
     number: u32,
     transaction: Option<Transaction>,
     watching: Vec<Watched>,
-    // The number of an overflow that the session was not told yet.
+    // The number of an overflow that the session has not taken yet.
     overflow: Option<u64>,
     post: P,
 }
@@ -57,7 +57,7 @@ impl<P: Post> Model for Session<P> {
 impl<P: Post + Drop> Session<P> {
     ghost use Rattle.tab_subs.specs.Lending.{lends_own};
 
-    /// Of a session that has just joined.
+    /// A session that has just joined.
     pub fn new(alloc: Global, number: u32, post: P) -> Session<P>
         ensures { result ≡ fresh number (P.outbox post) }
     {
@@ -92,28 +92,28 @@ impl<P: Post + Drop> Session<P> {
         &mut self.transaction
     }
 
-    /// Where its items are put.
+    /// The post that its items are put into.
     pub fn post(&self) -> &P
         ensures { P.outbox result.now ≡ self.now.outbox }
     {
         &self.post
     }
 
-    /// The commit from which on its items are lost, where it was not told so yet.
+    /// The commit from which on its items are lost, if the session has not taken that overflow yet.
     pub fn overflow(&self) -> Option<u64>
         ensures { result ≡ self.now.overflow }
     {
         self.overflow
     }
 
-    /// How it watches the table; None where it does not.
+    /// The level at which it watches the table; None if it does not.
     pub fn level(&self, table: &Atom) -> Option<Level>
         ensures { result ≡ level_in self.now.watching table.now }
     {
         level_of(&self.watching, table)
     }
 
-    /// Takes its next item, or tells its overflow once all items are taken.
+    /// Takes its next item, or its overflow once all items are taken.
     pub fn take(&mut self) -> Taken
         ensures { (self.new, result) ≡ take_of self.old }
     {
@@ -173,8 +173,8 @@ impl<P: Post + Drop> Session<P> {
         Ok(Marked::Put)
     }
 
-    /// Puts an item that is due, unless the post refuses it, which ends all subscriptions. Where a table is gone, it is
-    /// watched no more. Answers whether the item was refused.
+    /// Puts an item into the post. If the post refuses it, all subscriptions end. If a table is gone, its subscription
+    /// ends. Returns whether the item was refused.
     pub fn receive(&mut self, number: u64, item: Option<SharedItem>, ended: Option<&Atom>) -> bool
         ensures received { self.new
             ≡ received number result (option_to_list item)
@@ -195,7 +195,7 @@ impl<P: Post + Drop> Session<P> {
         true
     }
 
-    /// The events of a commit that the session is due, at its levels.
+    /// The session's events of a commit, at its levels.
     pub fn batch(
         &self,
         alloc: Global,
@@ -220,7 +220,7 @@ impl<P: Post + Drop> Session<P> {
         Ok(Some(SharedItem::new(alloc, Item::Batch(commit, told))?))
     }
 
-    /// The marker of a table's deletion, where the session watches it.
+    /// The marker of a table's deletion, if the session watches it.
     pub fn end_mark(&self, alloc: Global, table: &Atom) -> Result<Option<SharedItem>, AllocError>
         ensures { IfOk result
             (λ item. option_to_list item ≡ end_for (level_in self.now.watching) (Some table.now)) }

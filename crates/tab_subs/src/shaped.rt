@@ -10,7 +10,7 @@ use tab_events::{Event, Level, shape};
 use tab_lists::SharedEvent;
 use tab_term::Atom;
 
-/// An event as it was shaped so far, once a level, for all who are told it.
+/// An event with its terms so far, one a level, for all subscribers.
 #[derive(Drop)]
 pub struct Shaped<'a> {
     event: &'a Event,
@@ -56,7 +56,7 @@ impl<'a> Shaped<'a> {
         &self.event.tab
     }
 
-    /// The event as it is told at the level, which stands once for all who are given it.
+    /// The event's term at the level, which all subscribers at the level share.
     pub fn told(&mut self, alloc: Global, level: Level) -> Result<SharedEvent, AllocError>
         ensures same { self.new ≡ self.old }
         ensures told { IfOk result (λ e. event_term e ≡ shape_of level self.old) }
@@ -68,7 +68,7 @@ impl<'a> Shaped<'a> {
     }
 }
 
-/// A share of what is kept of the event at the level, which is shaped where nothing is.
+/// Returns a share of the event's term at the level, which it creates if there is none.
 fn share_of(
     alloc: Global,
     event: &Event,

@@ -77,7 +77,7 @@ impl<P: Post + Drop> Subs<P> {
         self.sessions.retain(|slot| slot.number() != session);
     }
 
-    /// The place of a session, where the calls below find it. None of one that isn't joined.
+    /// The index of a session, for the calls below. None if it isn't joined.
     pub fn place(&self, session: u32) -> Option<usize>
         ensures { MatchOption result (at self.now session ≡ None) (IsHeldAt self.now session) }
     {
@@ -89,7 +89,7 @@ impl<P: Post + Drop> Subs<P> {
         None
     }
 
-    /// How many sessions are joined.
+    /// The number of joined sessions.
     pub fn len(&self) -> usize
         ensures { result ≡ length self.now }
     {
@@ -121,7 +121,7 @@ impl<P: Post + Drop> Subs<P> {
         self.sessions[place].transaction_mut()
     }
 
-    /// What the session takes next. None of one that isn't joined.
+    /// Takes the session's next item. None if it isn't joined.
     pub fn take(&mut self, session: u32) -> Option<Taken>
         ensures { (self.new, result) ≡ taken_from self.old (at self.old session) }
     {
@@ -174,8 +174,8 @@ impl<P: Post + Drop> Subs<P> {
         Ok(Some(marked))
     }
 
-    /// What a commit owes: to each session the events of the tables that it watches, at its levels, as one item. The
-    /// number is the commit's.
+    /// The items of a commit: for each session the events of the tables that it watches, at its levels, as one item.
+    /// The number is the commit's.
     pub fn prepare(
         &self,
         alloc: Global,
@@ -197,7 +197,7 @@ impl<P: Post + Drop> Subs<P> {
         with_room(alloc, commit, due, None)
     }
 
-    /// What a commit with one event owes, which is one item a level.
+    /// The items of a commit with one event, one item a level.
     fn due_of_one(
         &self,
         alloc: Global,
@@ -217,7 +217,7 @@ impl<P: Post + Drop> Subs<P> {
         Ok(due)
     }
 
-    /// What a commit owes: a batch of its own to each session that is told of it.
+    /// The items of a commit: a batch of its own for each session that watches one of its tables.
     fn due_of(
         &self,
         alloc: Global,
@@ -237,7 +237,8 @@ impl<P: Post + Drop> Subs<P> {
         Ok(due)
     }
 
-    /// What a table's deletion owes: an end marker to each session that watches it. The number is that of the next commit.
+    /// The items of a table's deletion: an end marker for each session that watches it. The number is that of the next
+    /// commit.
     pub fn prepare_end(
         &self,
         alloc: Global,
@@ -259,8 +260,8 @@ impl<P: Post + Drop> Subs<P> {
         with_room(alloc, commit, due, Some(table.try_clone(alloc)?))
     }
 
-    /// Puts what is due, in the order of the sessions' numbers, and answers who overflowed: an item that a post refuses
-    /// ends its session's subscriptions.
+    /// Puts the prepared items, in the order of the sessions' numbers, and returns the sessions that overflowed: an
+    /// item that a post refuses ends its session's subscriptions.
     pub fn deliver(&mut self, prepared: Prepared) -> Sessions
         ensures { Delivers prepared self.old self.new result }
     {
@@ -301,7 +302,7 @@ impl<P: Post + Drop> Subs<P> {
         Some(self.sessions[place].post())
     }
 
-    /// The number of the session's overflow, where it was not told yet.
+    /// The number of the session's overflow, if the session has not taken it yet.
     pub fn overflow(&self, session: u32) -> Option<u64>
         ensures { result ≡ overflow_of (at self.now session) }
     {
@@ -311,7 +312,7 @@ impl<P: Post + Drop> Subs<P> {
         self.sessions[place].overflow()
     }
 
-    /// How many sessions watch the table.
+    /// The number of sessions that watch the table.
     pub fn watchers(&self, table: &Atom) -> usize
         ensures { result ≡ count_by (λ s. is_some (level_in s.watching table.now)) self.now }
     {
@@ -321,7 +322,7 @@ impl<P: Post + Drop> Subs<P> {
             .count()
     }
 
-    /// Whether a session watches the table.
+    /// Returns whether a session watches the table.
     pub fn has_watcher(&self, table: &Atom) -> bool
         ensures { result ≡ has_watcher_of self.now table.now }
     {

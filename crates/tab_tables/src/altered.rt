@@ -1,4 +1,4 @@
-//! A table that is changed where it stands.
+//! A table that is changed in place.
 
 ghost use Rattle.tab_model.specs.Tables.{apply};
 ghost use Rattle.tab_model.specs.Catalogs.{with_rows};
@@ -11,11 +11,11 @@ use tab_records::Records;
 use tab_rows::Update;
 use tab_term::Term;
 
-/// What a change makes of its table.
+/// A change of a table.
 #[derive(Drop)]
 pub struct Altered<'a> {
     pub update: &'a Update,
-    /// Records of the table that are lent.
+    /// Records of the table that may be shared.
     pub records: Option<&'a Map<Term, Records>>,
 }
 

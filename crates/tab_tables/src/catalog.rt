@@ -77,7 +77,7 @@ impl Catalog {
         self.share()?.with(alloc, table)
     }
 
-    /// The tables with this one in the place of the one of its name, or among them, in place where nothing is shared. An
+    /// The tables with this one, which replaces the one of its name if there is one, in place if nothing is shared. An
     /// error drops the tables.
     pub fn with(self, alloc: Global, table: IndexedTable) -> Result<Catalog, AllocError>
         ensures { IfOk result (λ catalog. catalog ≡ place self table) }
@@ -88,8 +88,8 @@ impl Catalog {
         Ok(Catalog { by_name })
     }
 
-    /// The tables after the changes, in turn. These stay as they were, and share with the new ones all that did not change.
-    /// Of changes of one table that follow one another only the first makes a new version of it.
+    /// The tables after the changes, in turn. These stay as they were, and share with the new ones all that did not
+    /// change. If several changes of one table follow one another, only the first makes a new version of it.
     pub fn updated(
         &self,
         alloc: Global,
@@ -148,7 +148,7 @@ impl Catalog {
         })
     }
 
-    /// Whether there are fewer tables than the limit.
+    /// Returns whether there are fewer tables than the limit.
     pub fn has_room(&self, limit: u64) -> bool
         ensures { result ≡ nat_lt (length self.now) limit }
     {

@@ -13,8 +13,8 @@ use tab_index::IndexedTable;
 use tab_rows::Update;
 use tab_term::Atom;
 
-/// All tables, and a newer version of one of them that isn't in its place yet: while changes are of one table, it alone is
-/// changed, in place where nothing is shared.
+/// All tables, and a newer version of one of them that isn't in the catalog yet. While changes are of one table, only
+/// it is changed, in place if nothing is shared.
 #[derive(Drop)]
 pub struct Changing {
     pub(crate) catalog: Catalog,

@@ -7,20 +7,20 @@ use tab_records::Records;
 use tab_rows::{Form, Update};
 use tab_term::{Atom, Term};
 
-/// Who lends records to bags that are written to. A record that is written is shared with it where it stands at the same place
-/// of its key in both; nothing else is taken from it. What a set is written has an entry of its own.
+/// The owner of records that bags may share. A written record is shared if it is at the same index of its key in both;
+/// nothing else is shared. A record that is written to a set has an entry of its own.
 #[derive(Clone, Copy)]
 pub enum Lender<'a> {
     /// Nobody.
     None,
     /// Other tables.
     Tables(&'a Catalog),
-    /// A transaction, with what stands at the keys that it touched.
+    /// A transaction, with the records at the keys that it touched.
     Overlay(&'a Map<Atom, Map<Term, Records>>),
 }
 
 impl<'a> Lender<'a> {
-    /// The records of the update's table, by key, where it writes one that has no entry of its own.
+    /// The records of the update's table, by key, if the update writes a record that has no entry of its own.
     pub(crate) fn records(&self, update: &Update, name: &Atom) -> Option<&'a Map<Term, Records>> {
         let Form::Change(Change::Write(_)) = update.form() else {
             return None;

@@ -1,4 +1,4 @@
-//! Schema commands, and what is told of tables.
+//! Schema commands, and reports about tables.
 
 ghost use Rattle.std.specs.Prelude.{◌≡◌, IfOk};
 ghost use Rattle.tab_model.specs.declared.data.Reply.TheVariants as reply;
@@ -16,7 +16,7 @@ use tab_model::{Atoms, InfoItem, Numbers, Reply, Schema, TableInfo};
 use tab_schema::{DefFault, has_index, index_fault, parse_options, position};
 use tab_term::{Atom, Term, Terms};
 
-/// What a schema command comes to, but for locks and limits.
+/// The result of a schema command, without locks and limits.
 #[derive(Drop)]
 pub enum Redefined {
     Refused(Reply),
@@ -115,8 +115,8 @@ fn del_index(
     }
 }
 
-/// What is told of a table: its type, the names of its attributes, the positions of its indexes, or how many records it
-/// has.
+/// Reports about a table: its type, the names of its attributes, the positions of its indexes, or the number of its
+/// records.
 pub fn table_info(
     alloc: Global,
     catalog: &Catalog,

@@ -9,7 +9,7 @@ use tab_model::Change;
 use tab_rows::{Form, Update};
 use tab_term::{Atom, Term};
 
-/// The table that an update is made in, as `copy_of_tag` tells it of a record.
+/// The table that an update is made in, which `copy_of_tag` reads from a record.
 pub fn table_of_update(alloc: Global, update: &Update) -> Result<Atom, AllocError>
     ensures { IfOk result (λ name. name ≡ table_of update.now) }
 {
@@ -29,7 +29,7 @@ fn table_of_change(alloc: Global, change: &Change) -> Result<Atom, AllocError>
     }
 }
 
-/// A copy of the name that a record begins with, its table's. Where it begins with none, the empty name.
+/// A copy of the name that a record begins with, its table's. If it begins with none, the empty name.
 pub fn copy_of_tag(alloc: Global, row: &Term) -> Result<Atom, AllocError>
     ensures { IfOk result (λ name. name ≡ tag_of (term row.now)) }
 {

@@ -13,7 +13,7 @@ use tab_model::{Operation, Reply};
 use tab_schema::{fits, has_index, position};
 use tab_term::{Atom, Term};
 
-/// What an operation answers on its table.
+/// The reply of an operation on its table.
 pub fn answered(
     alloc: Global,
     store: &TxStore,

@@ -13,7 +13,7 @@ use tab_model::{Lock, Mode, Operation, What, copy_of_key};
 use tab_tables::copy_of_tag;
 use tab_term::{Atom, Term, has_wildcard};
 
-/// The name of the table that an operation speaks of: where its record or pattern begins with no name, the empty one.
+/// The name of an operation's table: if its record or pattern begins with no name, the empty one.
 pub fn table_of(alloc: Global, operation: &Operation) -> Result<Atom, AllocError>
     ensures { IfOk result (λ name. name ≡ table_of_operation operation.now) }
 {

@@ -19,8 +19,8 @@ ghost use Rattle.tab_txstore.specs.Merged.{merged, filled_keys, IsSeen};
 ghost use Rattle.tab_txstore.specs.Overlays.{Touched, touched, seen_at};
 ghost use Rattle.tab_txstore.specs.Stores.{Store, no_store, store_next, committed_for, Fits};
 
-/// A new store fits all tables; right after a move it fits those that the move was made over; and it goes on to fit when
-/// another commits whose locks do not conflict, or when a schema command is done on a table on which it holds no lock.
+/// A law: a new store fits all tables. Right after a move it fits those that the move was made over. It goes on to fit
+/// after another's commit whose locks do not conflict, and after a schema command on a table on which it holds no lock.
 #[tactic(auto, using(crate::proofs::FitsLemmas::fits_new, crate::proofs::FitsLemmas::fits_next, crate::proofs::FitsLemmas::fits_stays, crate::proofs::FitsLemmas::fits_schema))]
 pub fn a_store_fits()
     ensures new { (w : Catalog) → Fits no_store w }
@@ -58,7 +58,8 @@ pub fn a_store_shows()
         ≡ option_map (λ (x : Table). x.def) (find w t) }
 {}
 
-/// The touched keys among a table's: where records stand, they are the keys of the table as the transaction sees it.
+/// A law: the keys with records, of a table's and the touched ones, are the keys of the table as the transaction sees
+/// it.
 #[tactic(auto, using(crate::proofs::MergedLemmas::keys_seen))]
 pub fn keys_are_seen()
     ensures { (xs es : Touched) (seen : List PlainTerm) → Ascends term_cmp xs → IsInOrder es

@@ -31,7 +31,8 @@ pub struct TxLevels {
     saved: Vec<Saved>,
 }
 
-/// What an open level goes back to: an overlay, which shares its nodes with the later ones, and how many updates there were.
+/// The state that an open level goes back to: an overlay, which shares its nodes with the later ones, and the number of
+/// updates.
 #[derive(Drop)]
 pub struct Saved {
     overlay: Map<Atom, Map<Term, Records>>,
@@ -80,7 +81,7 @@ impl TxLevels {
         }
     }
 
-    /// How many levels are open below the first.
+    /// The number of open levels below the first.
     pub fn depth(&self) -> usize
         ensures { result ≡ length self.now.saved }
     {
@@ -106,7 +107,7 @@ impl TxLevels {
         updates
     }
 
-    /// A key of a committed table with what stands there. None where nothing does, and neither did the transaction touch it.
+    /// A key of a committed table with its records. None if it has none, and the transaction did not touch it.
     pub fn seen_entry<'a>(
         &'a self,
         committed: &'a IndexedTable,
@@ -123,14 +124,14 @@ impl TxLevels {
         seen_entry(&self.overlay, committed, key)
     }
 
-    /// What stands at the touched keys, by table.
+    /// The records at the touched keys, by table.
     pub fn overlay(&self) -> &Map<Atom, Map<Term, Records>>
         ensures { result.now ≡ self.now.now.overlay }
     {
         &self.overlay
     }
 
-    /// The touched keys of a table, each with what stands there. None where no key of it was touched.
+    /// The touched keys of a table, each with its records. None if no key of it was touched.
     pub fn touched(&self, committed: &IndexedTable) -> Option<&Map<Term, Records>>
         ensures { option_copied result
             ≡ lookup bytes_cmp committed.now.def.name self.now.now.overlay }
@@ -151,7 +152,8 @@ impl TxLevels {
         Ok(Snapshot::new(own, committed.records().share()?))
     }
 
-    /// An operation that was made over its committed table, with its reply: its change, or where it failed the end of its level.
+    /// Adds an operation that was made over its committed table, with its reply: its change, or if it failed the end of
+    /// its level.
     pub fn operate(
         &mut self,
         alloc: Global,

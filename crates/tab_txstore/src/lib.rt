@@ -1,8 +1,10 @@
-//! A transaction's private store: what it did and was told, and what it left at the keys that it touched, over tables that
-//! are only lent. And its operations: the lock that one asks for, what it answers, and what it leaves in the store.
+//! A transaction's private store: its moves, their replies, and the records that it left at the keys that it touched.
+//! The tables under it are only borrowed. And its operations: the lock that one asks for, its reply, and its change of
+//! the store.
 //!
-//! Contracts see the moves, their replies and the levels (specs/Stores). No call has a condition on the committed tables: what
-//! they must be, for the store to be that of its moves, is `Fits`, and the laws say what keeps it and what it gives.
+//! Contracts see the moves, their replies and the levels (specs/Stores). No call has a condition on the committed
+//! tables. `Fits` is what they must be, for the store to be that of its moves, and the laws say what keeps it and what
+//! it gives.
 
 #![tactic(auto)]
 

@@ -15,9 +15,9 @@ use tab_model::{Operation, Reply, SharedReply};
 use tab_tables::Catalog;
 use tab_term::Atom;
 
-/// Performs an operation of a transaction on tables that it is lent: what it answers on them as the transaction sees them,
-/// and its trace and what it changes in the store. The tables stay as they are. What is answered stands once, for the caller and
-/// the trace.
+/// Performs an operation of a transaction on borrowed tables. It returns the reply on them as the transaction sees
+/// them, and adds its trace and its changes to the store. The tables stay as they are. The caller and the trace share
+/// the reply.
 pub fn perform(
     alloc: Global,
     catalog: &Catalog,

@@ -21,7 +21,7 @@ use tab_records::Records;
 use tab_rows::Update;
 use tab_term::{Atom, Term};
 
-/// What a transaction did, what it was told, and what it left at the keys that it touched.
+/// The moves of a transaction, their replies, and the records that it left at the keys that it touched.
 pub struct TxStore {
     // With room for the ends of the levels that are open.
     moves: Vec<Move>,
@@ -64,7 +64,7 @@ impl Drop for TxStore {
     }
 }
 
-/// All that a transaction leaves to who commits it.
+/// All parts of a finished transaction that its commit needs.
 #[derive(Drop)]
 pub struct Finished {
     pub moves: Moves,
@@ -184,14 +184,14 @@ impl TxStore {
         self.levels.clear();
     }
 
-    /// How many levels are open below the first.
+    /// The number of open levels below the first.
     pub fn depth(&self) -> usize
         ensures { result ≡ length self.now.levels.saved }
     {
         self.levels.depth()
     }
 
-    /// How many of the moves count towards the limit of a transaction's operations.
+    /// The number of moves that count towards the limit of a transaction's operations.
     pub fn count(&self) -> usize
         ensures { result ≡ count_moves self.now.moves }
     {
@@ -205,7 +205,7 @@ impl TxStore {
         self.levels.updates()
     }
 
-    /// What stands at the touched keys, by table.
+    /// The records at the touched keys, by table.
     pub fn overlay(&self) -> &Map<Atom, Map<Term, Records>>
         ensures { result.now ≡ self.now.levels.now.overlay }
     {
@@ -231,7 +231,7 @@ impl TxStore {
         }
     }
 
-    // A key of a committed table with what stands there for the transaction. None where nothing does, and it wasn't touched.
+    // A key of a committed table with its records for the transaction. None if it has none, and it wasn't touched.
     pub(crate) fn seen_entry<'a>(
         &'a self,
         committed: &'a IndexedTable,

@@ -1,4 +1,4 @@
-//! Changes of an overlay, in place where no saved level shares it.
+//! Changes of an overlay, in place if no saved level shares it.
 ghost use Rattle.std.specs.Prelude.{◌≡◌, [], IfOk, IfSome, IsSome, MatchOption, OnOk, OnErr};
 ghost use Rattle.tab_term.specs.Order.{bytes_cmp, term_cmp};
 ghost use Rattle.std.specs.Option.{option_copied};
@@ -21,7 +21,7 @@ use tab_records::Records;
 use tab_rows::{Append, Form, Update, key_of};
 use tab_term::{Atom, Term};
 
-/// An entry that comes to stand at its key.
+/// A new entry at its key.
 #[derive(Drop)]
 struct PutAt {
     entry: Entry<Term, Records>,
@@ -81,7 +81,7 @@ impl Revise<Map<Term, Records>> for AppendAt {
     }
 }
 
-/// A key of a committed table with what stands there. None where nothing does, and neither did the transaction touch it.
+/// A key of a committed table with its records. None if it has none, and the transaction did not touch it.
 pub fn seen_entry<'a>(
     overlay: &'a Map<Atom, Map<Term, Records>>,
     committed: &'a IndexedTable,
@@ -144,7 +144,7 @@ fn touch_change(
     Ok(())
 }
 
-// Writes a record to a committed set: its entry takes the place of what stands at its key, so that nothing is looked for.
+// Writes a record to a committed set: its entry replaces that of its key, with no search in the table.
 fn put_only(
     overlay: &mut Map<Atom, Map<Term, Records>>,
     alloc: Global,
@@ -162,7 +162,7 @@ fn put_only(
     Ok(())
 }
 
-// What a change leaves at its key.
+// The records of a key after a change.
 fn left_at(
     overlay: &Map<Atom, Map<Term, Records>>,
     alloc: Global,
@@ -231,7 +231,7 @@ fn put(
     Ok(())
 }
 
-// Puts the record after those that stand at the key of the table, which was touched before.
+// Puts the record after those at the key of the table, which was touched before.
 fn append(
     overlay: &mut Map<Atom, Map<Term, Records>>,
     alloc: Global,

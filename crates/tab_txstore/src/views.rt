@@ -21,8 +21,8 @@ use tab_records::Records;
 use tab_term::{Term, Terms};
 
 impl TxStore {
-    /// What stands at a key of a committed table for the transaction, in the order of insertion. It is shared with the table, or
-    /// with the transaction, and takes no memory.
+    /// The records at a key of a committed table for the transaction, in the order of insertion. They are shared with
+    /// the table, or with the transaction, and take no memory.
     pub fn view_read(
         &self,
         alloc: Global,
@@ -51,8 +51,8 @@ impl TxStore {
         Ok(SharedTerms::from_keys(self.snapshot(committed)?))
     }
 
-    /// The records that fit the pattern, of a committed table as the transaction sees it, in their order. They are looked for
-    /// when they are read. Where no `'_'` stands in the pattern's key, no other key is looked at.
+    /// The records that fit the pattern, of a committed table as the transaction sees it, in their order. They are
+    /// searched for when they are read. If the pattern's key has no `'_'`, no other key is looked at.
     pub fn view_match(
         &self,
         alloc: Global,
@@ -92,9 +92,9 @@ impl TxStore {
         }
     }
 
-    /// The records that have the value at the position, of a committed table as the transaction sees it, in their order. They are
-    /// looked for when they are read. Only keys that the index has with the value, and touched keys, are looked at; where the
-    /// position has no index the table is walked.
+    /// The records that have the value at the position, of a committed table as the transaction sees it, in their
+    /// order. They are searched for when they are read. Only keys that the index has with the value, and touched keys,
+    /// are looked at; if the position has no index the table is walked.
     pub fn view_index(
         &self,
         alloc: Global,
@@ -126,7 +126,7 @@ fn no_records(alloc: Global) -> SharedTerms
     SharedTerms::from_terms(Terms::from_vec(Vec::new(alloc)))
 }
 
-// The records of a key's entry that fit the pattern. One that stands alone is compared at once, so that the pattern is not
+// The records of a key's entry that fit the pattern. A single record is compared at once, so that the pattern is not
 // copied.
 fn match_entry(
     alloc: Global,

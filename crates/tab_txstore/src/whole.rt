@@ -2,8 +2,8 @@
 
 ghost use Rattle.std.specs.Prelude.{◌≡◌};
 
-/// A value on its way to its place. An enum that stays alive across a `?` is looked at variant by variant at each exit, and is
-/// moved so from call to call; in a struct it is one.
+/// A value on its way to its place. An enum that stays alive across a `?` is looked at variant by variant at each exit,
+/// and is moved so from call to call. In a struct it is moved as one.
 pub struct Whole<T: Drop> {
     pub value: T,
 }

@@ -9,10 +9,9 @@ use tab_core::{Core, Step};
 use tab_model::{Command, SharedReply};
 use tab_outbox::Post;
 
-/// What the session is told. A refusal is a reply too; the error is that of memory alone, and the command may be asked
-/// again.
+/// The session's reply. A refusal is a reply too. The error is only that of memory, and the command may be sent again.
 ///
-/// Of a one-shot this is the begin of its transaction.
+/// The reply of a one-shot is that of the begin of its transaction.
 pub fn reply_to<P: Post + Drop>(
     core: &mut Core<P>,
     session: u32,

@@ -1,4 +1,4 @@
-//! A mirror that is fed all that its session was told.
+//! A mirror that is fed all that its session received.
 
 ghost use Rattle.std.specs.Prelude.{◌≡◌, ◌<◌, ℕ, length, take, OnOk, OnErr};
 ghost use Rattle.tab_uses.specs.Mirrors.{rows_after};
@@ -7,8 +7,8 @@ use std::alloc::{AllocError, Global};
 use tab_events::Mirror;
 use tab_term::Term;
 
-/// Takes in the terms, one after another. At the error the mirror has taken in those before the one for which memory was
-/// refused, and does not say how many they are: a mirror that goes on from there wants a dump first.
+/// Takes in the terms, one after another. At the error the mirror has taken in those before the one for which memory
+/// was refused. It does not report their number: a mirror that goes on from there needs a dump first.
 #[tactic(auto, using(crate::proofs::MirrorsLemmas::rows_after_take))]
 pub fn feed_all(mirror: &mut Mirror, alloc: Global, told: &[Term]) -> Result<(), AllocError>
     ensures stays { (mirror.new.table ≡ mirror.old.table) × (mirror.new.kind ≡ mirror.old.kind) }

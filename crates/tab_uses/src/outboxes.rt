@@ -10,7 +10,7 @@ use std::alloc::Global;
 use std::convert::AsStr;
 use tab_words::{Run, words};
 
-/// How many items an outbox holds, by these words, of which the first is the program's name.
+/// The capacity of an outbox, by these words, of which the first is the program's name.
 pub fn outbox_asked<'a, S: AsStr>(alloc: Global, given: &'a [S]) -> Result<u32, Error>
     ensures range { IfOk result (λ n. (1 ≤ n) × (n ≤ 65536)) }
     ensures asked { IfOk result

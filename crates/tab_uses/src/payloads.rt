@@ -1,4 +1,4 @@
-//! A payload that comes from outside, written anew.
+//! A payload that comes from outside, written again.
 
 ghost use Rattle.std.specs.Prelude.{◌≡◌, OnOk, OnErr, IfErr};
 ghost use Rattle.tab_uses.specs.Payloads.{AppendsCanonical, IsFaultOf};
@@ -7,13 +7,13 @@ use std::alloc::Global;
 use tab_etf::{EncodeFault, EtfFault, decode, encode};
 use thiserror::Error;
 
-/// Why a payload was not written anew.
+/// The reason that a payload was not written again.
 #[derive(Clone, Copy, Debug, PartialEq, Eq, Error)]
 pub enum PayloadFault {
     /// It is no term; or there is no memory.
     #[error("no term: {0}")]
     Decode(EtfFault),
-    /// Its term is too long where it is written canonically; or there is no memory.
+    /// Its canonical encoding is too long; or there is no memory.
     #[error("not written: {0}")]
     Encode(EncodeFault),
 }

@@ -11,8 +11,8 @@ use tab_core::{Core, Step};
 use tab_model::{Limits, SharedReply, steps_keep_what_holds};
 use tab_outbox::Post;
 
-/// A new core after these steps, and what each was told. A step for which memory is refused is told `NoMemory`, and the
-/// steps behind it are made all the same; at the error none is made.
+/// A new core after these steps, and the reply to each. A step for which memory is refused has the reply `NoMemory`,
+/// and the steps after it are made all the same; at the error none is made.
 pub fn core_after<P: Post + Drop>(
     alloc: Global,
     limits: Limits,
@@ -21,7 +21,7 @@ pub fn core_after<P: Post + Drop>(
     requires sessions { limits.sessions ≤ 64 }
     requires empty { AllJoinEmpty (asks_of P.outbox steps.items) }
 
-    // The log is legal, and the tables are those of its commits run alone, one after another.
+    // The log is legal, and the tables are those of its commits run serially.
     ensures { IfOk result
         (λ r. (log : List EntryOf)
         × RunsTo (new limits) (asks_of P.outbox steps.items) r.1.items log r.0

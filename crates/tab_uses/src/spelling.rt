@@ -1,4 +1,4 @@
-//! A term that is spelled and read back.
+//! A term that is encoded and read back.
 
 ghost use Rattle.std.specs.Prelude.{◌≡◌, ◌<◌, ◌≤◌, ◌∷◌, ◌↔◌, length, IfOk, IfErr, Err};
 ghost use Rattle.tab_term.specs.Canon.{canon};
@@ -12,7 +12,7 @@ use tab_etf::{EncodeFault, EtfFault, decode, encode, spellings_are_apart};
 use tab_term::Term;
 use thiserror::Error;
 
-/// Why a term did not come back from its own encoding.
+/// The reason that a term did not come back from its own encoding.
 #[derive(Clone, Copy, Debug, PartialEq, Eq, Error)]
 pub enum AgainFault {
     /// It is too long, or there is no memory.
@@ -55,7 +55,7 @@ pub fn term_again(alloc: Global, value: &Term) -> Result<Term, AgainFault>
     ensures too_long { (result ≡ Err (AgainFault.Encode EncodeFault.TooLong))
         ↔ (4294967295 < length (131 ∷ canon (term value.now))) }
 
-    // Any other fault but a want of memory comes only where the canonical spelling is none that is read.
+    // Any fault other than `NoMemory` comes only if the canonical encoding is one that can't be read.
     ensures comes_back { Spells (term value.now) (canon (term value.now))
         → depth (term value.now) ≤ 64 → IfErr result IsOfMemory }
 {

@@ -9,28 +9,28 @@ use tab_model::{Command, Operation, Reply};
 use tab_post::Host;
 use tab_term::Term;
 
-/// How a write ended.
+/// The end of a write.
 #[derive(Clone, Copy, Debug, PartialEq, Eq)]
 pub enum Ending {
     /// It is committed: the number of its commit, from 1 on.
     Commit(u64),
     /// It was refused, as a record of no table is.
     Refusal,
-    /// It was told to restart each time.
+    /// It was restarted each time.
     Restart,
 }
 
-/// So many naps of 20 milliseconds who was told to restart rests at most.
+/// The most sleeps of 20 milliseconds of a back-off.
 const NAPS: u32 = 50;
 
-/// Writes the record in a transaction of its own. The session has none open, neither before nor after it. Where the
-/// write is told to restart, the session rests and asks it once more, at most so many times in all; a lock that younger
-/// ones hold is waited for, without an end.
+/// Writes the record in a transaction of its own. The session has none open, neither before nor after it. If the write
+/// is restarted, the session backs off and repeats it, at most `attempts` times in all. It waits for a lock of younger
+/// transactions without a limit.
 ///
 /// At the error memory was refused, and nothing is written.
-// What others do meanwhile decides what the book answers, and so the calls of `Shared` say nothing of it: this says no
-// more than that no write is committed which was never asked. Whoever wants to know what stands there now holds the book
-// (`Shared::hold`), and has the contracts of `Book`.
+// The other sessions' steps meanwhile decide the book's replies, so the calls of `Shared` say nothing of them. This
+// says only that no write is committed which was never asked for. A caller that needs the tables as they are now locks
+// the book (`Shared::hold`), and has the contracts of `Book`.
 pub fn write_alone<H: Host>(
     host: &H,
     alloc: Global,
@@ -82,7 +82,7 @@ fn commit<H: Host>(host: &H, shared: &Shared<H>, seat: &Seat) -> Result<Ending, 
     }
 }
 
-/// Ends the transaction, where one is open. No memory is needed for it: an abort is never refused.
+/// Ends the transaction, if one is open. No memory is needed for it: an abort is never refused.
 fn give_up<H: Host>(host: &H, shared: &Shared<H>, seat: &Seat) {
     match shared.step(host, seat, Command::Abort(Term::Int(0))) {
         Ok(told) => drop(told),

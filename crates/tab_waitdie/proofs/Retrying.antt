@@ -30,7 +30,7 @@ pub record IsPlace (age at : ℕ) (ws : List Waiting) : Type 0 where
 pub record TellsFree (b : Bool) (held : List Owned) (at : ℕ) (ws : List Waiting) : Type 0 where
   pub told : (d : Waiting) → b ≡ not (list_any (opposes (owned (get_or ws at d))) (held ++ queued (take at ws)))
 
-some_item : (ws : List Waiting) (i : ℕ) → i < length ws → Waiting
+pub some_item : (ws : List Waiting) (i : ℕ) → i < length ws → Waiting
 some_item [] i lt = absurd (omega arith)
 some_item (x ∷ ws) i lt = x
 

@@ -17,7 +17,7 @@ use tab_locks::{Asked, Conflict, LockTable};
 use tab_model::Lock;
 use tab_term::Atom;
 
-/// What is answered to a request.
+/// The answer to a request.
 #[derive(Clone, Copy, Debug, PartialEq, Eq)]
 pub enum LockDecision {
     Granted,
@@ -25,21 +25,21 @@ pub enum LockDecision {
     Die,
 }
 
-/// What is answered to a retry.
+/// The answer to a retry.
 #[derive(Clone, Copy, Debug, PartialEq, Eq)]
 pub enum Retried {
     Granted,
     Wait,
 }
 
-/// Who holds locks, and who waits for one, each by its age.
+/// The owners of locks, and the transactions that wait for one, each by its age.
 #[derive(Drop)]
 pub struct Ages {
     alloc: Global,
     pub(crate) locks: LockTable,
     pub(crate) queue: Vec<Waiting>,
-    /// Who died, each with the lock that it died for, until it asks again. No answer depends on them, so contracts don't
-    /// show them.
+    /// The transactions that died, each with the lock that it died for, until it asks again. No answer depends on them,
+    /// so contracts don't show them.
     pub(crate) resting: Vec<Waiting>,
 }
 
@@ -71,15 +71,15 @@ impl Ages {
         }
     }
 
-    /// Whether a request of this age is queued.
+    /// Returns whether a request of this age is queued.
     pub fn waits(&self, age: u64) -> bool
         ensures { result ≡ is_some (request_of age self.now.queue) }
     {
         is_queued(&self.queue, age)
     }
 
-    /// A granted lock is held once more, also where one of its own covers it; a request that waits is queued; who dies
-    /// keeps what it holds. Where no queued request is in its way, to ask and to hold is one search.
+    /// A granted lock is added once more, also if one of its own covers it. A request that waits is queued. A
+    /// transaction that dies keeps its locks. If no queued request opposes it, one search both tests and grants.
     pub fn request(&mut self, age: u64, lock: Lock) -> Result<LockDecision, AllocError>
         requires { request_of age self.old.queue ≡ None }
         ensures answer { IfOk result (λ a. answer_of a ≡ decision self.old (age, lock_of lock)) }
@@ -118,7 +118,7 @@ impl Ages {
         match answer {
             LockDecision::Granted => self.locks.hold(age, lock)?,
             LockDecision::Wait => self.queue.push(Waiting { age, lock })?,
-            // Where memory is refused it does not rest.
+            // If memory is refused it has no back-off.
             LockDecision::Die => drop(self.resting.push(Waiting { age, lock })),
         }
         Ok(answer)
@@ -133,7 +133,7 @@ impl Ages {
         }
     }
 
-    /// Asks again for a queued request. It looks at the held locks and at the requests queued before it.
+    /// Asks again for a queued request. It looks at the granted locks and at the requests queued before it.
     pub fn retry(&mut self, age: u64) -> Result<Retried, AllocError>
         requires { IsSome (request_of age self.old.queue) }
         ensures answer { IfSome (request_of age self.old.queue)
@@ -150,7 +150,7 @@ impl Ages {
         Ok(Retried::Granted)
     }
 
-    /// Whether a retry of the queued request is granted. It takes no memory.
+    /// Returns whether a retry of the queued request is granted. It takes no memory.
     pub fn may_go(&self, age: u64) -> bool
         requires { IsSome (request_of age self.now.queue) }
         ensures { IfSome (request_of age self.now.queue) (λ r. result ≡ can_retry self.now r) }
@@ -159,7 +159,8 @@ impl Ages {
         is_free(&self.locks, &self.queue, at)
     }
 
-    /// Holds the lock of a queued request, which stays queued: for who has work to do between the two that can fail.
+    /// Grants the lock of a queued request, which stays queued: the caller may do work that can fail before it drops
+    /// the request.
     pub fn grant(&mut self, age: u64) -> Result<(), AllocError>
         requires queued { IsSome (request_of age self.old.queue) }
         requires free { IfSome (request_of age self.old.queue)
@@ -175,7 +176,8 @@ impl Ages {
         Ok(())
     }
 
-    /// Gives the lock back that this owner was granted last, as where what it was for can't be done. It takes no memory.
+    /// Gives back the lock that this owner was granted last, for example if its operation can't be done. It takes no
+    /// memory.
     pub fn unhold(&mut self, age: u64)
         ensures { self.new ≡ ages (without_last age self.old.held) self.old.queue }
     {
@@ -189,7 +191,7 @@ impl Ages {
         drop_requests(&mut self.queue, age);
     }
 
-    /// Takes an owner's locks and its queued request away, and ends its rest.
+    /// Removes an owner's locks and its queued request, and ends its back-off.
     pub fn forget(&mut self, owner: u64)
         ensures { self.new ≡ forgotten self.old owner }
     {
@@ -197,7 +199,7 @@ impl Ages {
         self.give_up(owner);
     }
 
-    /// Takes an owner's locks and its queued request away. It rests on.
+    /// Removes an owner's locks and its queued request. Its back-off goes on.
     pub fn give_up(&mut self, owner: u64)
         ensures { self.new ≡ forgotten self.old owner }
     {
@@ -205,7 +207,7 @@ impl Ages {
         drop_requests(&mut self.queue, owner);
     }
 
-    /// Whether some held or queued lock is on this table.
+    /// Returns whether some granted or queued lock is on this table.
     pub fn busy(&self, table: &Atom) -> bool
         ensures { result ≡ list_any (is_in table.now) (all_of self.now) }
     {
@@ -223,7 +225,7 @@ fn answer_to(held: Conflict, queued: Conflict) -> LockDecision
     }
 }
 
-/// Whether no other owner holds, or asked before it for, what conflicts with the request at this place.
+/// Returns whether no other owner holds, or asked before it for, what conflicts with the request at this place.
 fn is_free(locks: &LockTable, queue: &[Waiting], at: usize) -> bool
     requires { at < length queue.now }
     ensures { (d : Waiting)
@@ -237,8 +239,8 @@ fn is_free(locks: &LockTable, queue: &[Waiting], at: usize) -> bool
     }
 }
 
-/// A law: no chain of waits leads back to where it began, since the age rises along each. The body names a field, for that
-/// is what lets a proof know the type's invariant.
+/// A law: no chain of waits is a cycle, since the age rises along each. The body names a field, so that a proof knows
+/// the type's invariant.
 pub fn no_chain_of_waits_leads_back(ages: &Ages)
     ensures { (a b : ℕ) (bs : List ℕ) → Chain ages.now a (b ∷ bs) → a < last_of b bs }
 {

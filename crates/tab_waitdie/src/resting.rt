@@ -1,4 +1,4 @@
-//! Who died for a lock, and rests until it is free.
+//! The back-off of transactions that died for a lock, until it is free.
 
 ghost use Rattle.std.specs.Prelude.{◌≡◌, IfSome};
 ghost use Rattle.tab_model.specs.Ages.{can_retry, request_of};
@@ -8,21 +8,21 @@ use crate::waiting::{Waiting, any_opposing, conflicts_in, drop_requests};
 use tab_locks::Conflict;
 use tab_model::Lock;
 
-/// How who died for a lock stands to it.
+/// The back-off state of a transaction.
 #[derive(Clone, Copy, Debug, PartialEq, Eq)]
 pub enum Rest {
-    /// It rests for none.
+    /// It has no back-off.
     Over,
-    /// No other holds or awaits a lock in conflict, and no one older rests for one.
+    /// No other holds or awaits a lock in conflict, and no older one backs off for one.
     Free,
-    /// No other holds or awaits a lock in conflict, but an older one rests for one.
+    /// No other holds or awaits a lock in conflict, but an older one backs off for one.
     Behind,
     /// Another holds or awaits a lock in conflict.
     Held,
 }
 
 impl Ages {
-    /// How who has this age stands to the lock that it died for. No answer depends on it, so no contract speaks of it.
+    /// The back-off state of the transaction of this age. Replies do not depend on it, so it has no contract.
     pub fn rest(&self, age: u64) -> Rest {
         let Some(lock) = lock_of(&self.resting, age) else {
             return Rest::Over;
@@ -37,12 +37,12 @@ impl Ages {
         }
     }
 
-    /// Whether someone rests.
+    /// Returns whether any transaction has a back-off.
     pub fn anyone_rests(&self) -> bool {
         !self.resting.is_empty()
     }
 
-    /// Whether a request of this age that is queued would be granted now, or who has this age rests and may go on.
+    /// Returns whether a queued request of this age would be granted now, or the back-off of this age may end.
     pub fn is_ready(&self, age: u64) -> bool
         ensures { IfSome (request_of age self.now.queue) (λ r. result ≡ can_retry self.now r) }
     {
@@ -52,7 +52,7 @@ impl Ages {
         matches!(self.rest(age), Rest::Free)
     }
 
-    /// Who has this age rests no more.
+    /// Ends the back-off of the transaction of this age.
     pub fn end_rest(&mut self, age: u64)
         ensures { self.new ≡ self.old }
     {
@@ -60,8 +60,8 @@ impl Ages {
     }
 }
 
-/// The lock that who has this age died for.
-fn lock_of(resting: &[Waiting], age: u64) -> Option<&Lock> {
+/// The lock that the transaction of this age died for.
+pub(crate) fn lock_of(resting: &[Waiting], age: u64) -> Option<&Lock> {
     for waiting in resting {
         if waiting.age == age {
             return Some(&waiting.lock);

@@ -19,7 +19,7 @@ pub(crate) struct Waiting {
     pub lock: Lock,
 }
 
-/// Whose requests of these one for this lock conflicts with.
+/// The queued requests that a request for this lock conflicts with: none, only younger ones, or an older one.
 pub(crate) fn conflicts_in(queue: &[Waiting], age: u64, lock: &Lock) -> Conflict
     ensures { result ≡ conflict_with (age, lock_of lock.now) (queued queue.now) }
 {
@@ -41,7 +41,7 @@ fn any_blocking(queue: &[Waiting], age: u64, lock: &Lock) -> bool
     queue.iter().any(|waiting| blocks(age, lock, waiting))
 }
 
-fn opposes(age: u64, lock: &Lock, waiting: &Waiting) -> bool
+pub(crate) fn opposes(age: u64, lock: &Lock, waiting: &Waiting) -> bool
     ensures { result ≡ opposes_of (age, lock_of lock.now) (owned waiting.now) }
 {
     waiting.age != age && conflict(lock, &waiting.lock)
@@ -53,7 +53,7 @@ fn blocks(age: u64, lock: &Lock, waiting: &Waiting) -> bool
     opposes(age, lock, waiting) && !(age < waiting.age)
 }
 
-fn conflict(asked: &Lock, other: &Lock) -> bool
+pub(crate) fn conflict(asked: &Lock, other: &Lock) -> bool
     ensures { result ≡ conflict_of (lock_of asked.now) (lock_of other.now) }
 {
     asked.table == other.table
@@ -85,7 +85,7 @@ pub(crate) fn is_queued(queue: &[Waiting], age: u64) -> bool
     queue.iter().any(|waiting| waiting.age == age)
 }
 
-/// Where the request of this age stands.
+/// The index of the request of this age.
 pub(crate) fn place_of(queue: &[Waiting], age: u64) -> usize
     requires { IsSome (request_of age (queued queue.now)) }
     ensures within { result < length queue.now }

@@ -17,7 +17,7 @@ use std::io;
 use std::rt::Env;
 use tab_proto::Delivery;
 
-/// What the words ask for.
+/// A run that the words ask for.
 #[derive(Drop)]
 pub enum Run {
     /// Each session's post holds so many items.
@@ -25,7 +25,7 @@ pub enum Run {
     Serve(Address, Service),
 }
 
-/// What these words ask for. The first is the program's name.
+/// Parses these words. The first is the program's name.
 pub fn words<'a, S: AsStr>(alloc: Global, words: &'a [S]) -> Result<Run, Error>
     ensures range { IfOk result AreInRange }
     ensures asked { IfOk result
@@ -38,7 +38,7 @@ pub fn words<'a, S: AsStr>(alloc: Global, words: &'a [S]) -> Result<Run, Error>
     run_of(alloc, &matches)
 }
 
-/// What these matches ask for.
+/// The run that these matches ask for.
 fn run_of(alloc: Global, matches: &ArgMatches<'_>) -> Result<Run, Error>
     ensures range { IfOk result AreInRange }
     ensures asked { IfOk result (IsAskedBy (subcommand_rows_of matches.now)) }
@@ -56,8 +56,8 @@ fn run_of(alloc: Global, matches: &ArgMatches<'_>) -> Result<Run, Error>
     })
 }
 
-/// Where clients are to connect; also that the number of connections is given. The parser itself has no rule of one option on
-/// another: the page of this crate says why.
+/// The address that clients connect to; it also checks that the number of connections is given. The parser itself has
+/// no rule of one option on another: the page of this crate says why.
 fn address(alloc: Global, matches: &ArgMatches<'_>) -> Result<Address, Error>
     ensures asked { IfOk result (IsAddressOf (rows_of (found_of matches.now))) }
     ensures fails { FailsBy (serve_kinds_of (rows_of (found_of matches.now))) result }
@@ -94,7 +94,7 @@ fn address(alloc: Global, matches: &ArgMatches<'_>) -> Result<Address, Error>
     }
 }
 
-/// The text of an option as it was written, where it is given.
+/// The text of an option as it was written, if it is given.
 fn written<'a>(matches: &ArgMatches<'a>, name: &str) -> Option<&'a str>
     ensures { option_map (λ text. text.now) result
         ≡ first_of name.now (rows_of (found_of matches.now)) }
@@ -134,7 +134,7 @@ fn port(matches: &ArgMatches<'_>) -> u16
     }
 }
 
-/// Whether a flag is given.
+/// Returns whether a flag is given.
 fn is_given(matches: &ArgMatches<'_>, name: &str) -> bool
     ensures { IsFlagOf name.now (rows_of (found_of matches.now)) result }
 {
@@ -199,7 +199,7 @@ fn sizes(matches: &ArgMatches<'_>) -> Sizes
     }
 }
 
-/// The number of an option, which the parser has found in its range, or what stands for it where it is not given.
+/// The number of an option, which the parser has found in its range, or `fallback` if the option is not given.
 fn number(matches: &ArgMatches<'_>, name: &str, least: u32, most: u32, fallback: u32) -> u32
     requires least { least ≤ fallback }
     requires most { fallback ≤ most }
@@ -214,7 +214,7 @@ fn number(matches: &ArgMatches<'_>, name: &str, least: u32, most: u32, fallback:
     }
 }
 
-/// What the words of this process ask for.
+/// Parses the words of this process.
 pub fn asked<H: Env + AllocGlobal>(rt: &H) -> Result<Run, Error>
     ensures range { IfOk result AreInRange }
     ensures asked { IfOk result

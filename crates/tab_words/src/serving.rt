@@ -4,7 +4,7 @@ ghost use Rattle.std.specs.Prelude.{◌≤◌};
 
 use tab_proto::Delivery;
 
-/// Where clients are to connect.
+/// An address that clients connect to.
 #[derive(Drop)]
 pub enum Address {
     /// A port of 127.0.0.1; 0 lets the system choose one.
@@ -13,16 +13,16 @@ pub enum Address {
     Socket(String),
 }
 
-/// What of a server's notes has a line.
+/// The notes of a server that have a line.
 #[derive(Clone, Copy, Debug, PartialEq, Eq)]
 pub enum Log {
-    /// What keeps it from serving, the sessions that it ends, and why the server ends.
+    /// The faults that keep it from serving, the sessions that it ends, and the reason of its end.
     Brief,
     /// Each session's start and end too.
     Full,
 }
 
-/// What a server is given: how many connections it accepts, how many items wait for a session, how many entries stand.
+/// The sizes of a server: the most connections, the most items of a session's mailbox, the most entries of the journal.
 #[derive(Clone, Copy)]
 pub struct Sizes {
     pub connections: u32,
@@ -33,20 +33,20 @@ pub struct Sizes {
     ghost journal_room: { 1 ≤ journal },
 }
 
-/// How the server is run.
+/// The settings of a server.
 #[derive(Clone, Copy)]
 pub struct Service {
     pub sizes: Sizes,
     /// A connection that ends makes room for another.
     pub forever: bool,
     pub delivery: Delivery,
-    /// So many seconds a session may be idle.
+    /// The most seconds that a session may be idle.
     pub idle: Option<u32>,
     pub log: Log,
-    /// The port where the counters are asked for; 0 lets the system choose one.
+    /// The port of the counters; 0 lets the system choose one.
     pub metrics: Option<u16>,
     /// A transaction that was open for so many seconds has a line.
     pub slow: Option<u32>,
-    /// An abort ends the wait of the operation before it, which is told nothing then.
+    /// An abort ends the wait of the operation before it, which has no reply then.
     pub aborts: bool,
 }

@@ -1,3 +1,5 @@
+%% SPDX-License-Identifier: Apache-2.0
+
 %% @doc A client of `tabd serve' with the calls of Mnesia: a program that calls `mnesia' calls `tabd'.
 %%
 %% ```

@@ -1,3 +1,5 @@
+%% SPDX-License-Identifier: Apache-2.0
+
 %% @private
 %% A connection to the server: a session of its own. One request is under way at a time, since its caller waits for the reply.
 %%

@@ -1,3 +1,5 @@
+%% SPDX-License-Identifier: Apache-2.0
+
 %% @private
 %% What is said of tables, of the client, and of errors.
 -module(tabd_info).

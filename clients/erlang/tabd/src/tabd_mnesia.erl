@@ -1,3 +1,5 @@
+%% SPDX-License-Identifier: Apache-2.0
+
 %% @doc A parse transform, by which a program of Mnesia calls tabd: `erlc "+{parse_transform, tabd_mnesia}" program.erl'.
 %%
 %% Each call of `mnesia' that `tabd' has is one of `tabd', also `fun mnesia:F/A', an import, and `mnesia, F, [..]' among the arguments of another

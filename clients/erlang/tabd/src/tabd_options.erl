@@ -1,3 +1,5 @@
+%% SPDX-License-Identifier: Apache-2.0
+
 %% @private
 %% The options of a client: checked, and with defaults for those that are not given.
 -module(tabd_options).

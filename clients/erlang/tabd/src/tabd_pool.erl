@@ -1,3 +1,5 @@
+%% SPDX-License-Identifier: Apache-2.0
+
 %% @private
 %% The connections of a client: those not in use, and the process that uses each other one. If all are in use another one is opened, up to a
 %% limit; beyond it a process that wants one waits. A process that watches tables has one of its own, which is not counted.

@@ -1,3 +1,5 @@
+%% SPDX-License-Identifier: Apache-2.0
+
 %% @private
 %% What the server has no operation for: match variables, match specifications, walks and QLC. Records and keys come over the connection, and
 %% are matched here.

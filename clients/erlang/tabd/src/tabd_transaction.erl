@@ -1,3 +1,5 @@
+%% SPDX-License-Identifier: Apache-2.0
+
 %% @private
 %% Transactions and their operations: which connection a process has, how its innermost level is, and when a fun is run again.
 %%

@@ -1,3 +1,5 @@
+%% SPDX-License-Identifier: Apache-2.0
+
 %% A program of Mnesia: accounts and their entries, changed by processes that meet. It is compiled for mnesia and for tabd, and prints
 %% the same on both. Of a transaction with several changes it does not show the events' order, which is not Mnesia's to promise.
 -module(bank).

@@ -1,3 +1,5 @@
+%% SPDX-License-Identifier: Apache-2.0
+
 %% A program of Mnesia: QLC, activities, walks, indexes and dirty calls. It is compiled as it is, and for tabd with the parse transform
 %% `tabd_mnesia', and prints the same on both. It prints lists sorted, since Mnesia promises no order of keys.
 -module(calls).

@@ -1,3 +1,5 @@
+%% SPDX-License-Identifier: Apache-2.0
+
 %% Calls what OTP's example `company' exports, and prints what it gives, lists sorted.
 -module(company_calls).
 -export([main/0]).

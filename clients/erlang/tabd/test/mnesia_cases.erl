@@ -1,3 +1,5 @@
+%% SPDX-License-Identifier: Apache-2.0
+
 %% Programs of Mnesia that are compiled for tabd by the parse transform: one of this folder, and OTP's examples if they are installed.
 -module(mnesia_cases).
 

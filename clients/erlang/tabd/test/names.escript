@@ -1,6 +1,7 @@
 #!/usr/bin/env escript
 %% -*- erlang -*-
 %%! -kernel logger_level none
+%% SPDX-License-Identifier: Apache-2.0
 %% The table of docs/MNESIA.md, "Calls": what each name that Mnesia exports is in the client. names.escript EBIN, EBIN being the folder of the
 %% client's compiled modules.
 %%

@@ -1,3 +1,5 @@
+%% SPDX-License-Identifier: Apache-2.0
+
 %% What docs/MNESIA.md says of each name of Mnesia is what the client has, with a type.
 -module(names_cases).
 

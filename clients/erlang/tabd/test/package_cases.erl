@@ -1,3 +1,5 @@
+%% SPDX-License-Identifier: Apache-2.0
+
 %% The client as others get it: by README's line, from a git repository.
 -module(package_cases).
 

@@ -1,3 +1,5 @@
+%% SPDX-License-Identifier: Apache-2.0
+
 %% The client against the built program.
 -module(program_cases).
 

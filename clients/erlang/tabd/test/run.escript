@@ -1,5 +1,6 @@
 #!/usr/bin/env escript
 %%! -kernel logger_level none
+%% SPDX-License-Identifier: Apache-2.0
 %% Tests of the Erlang client: run.escript PROGRAM [CASE], PROGRAM being the built tabd. They need no more than Debian's erlang-base; a case
 %% that needs more is skipped if that is not installed, and a line says so.
 %%

@@ -1,3 +1,5 @@
+%% SPDX-License-Identifier: Apache-2.0
+
 %% The client against a server that plays a script: restarts, refusals, events, and replies that do not come.
 -module(script_cases).
 

@@ -1,3 +1,5 @@
+%% SPDX-License-Identifier: Apache-2.0
+
 %% What the tests start and compare: the built program, a server that plays a script, and clients of them.
 -module(servers).
 

@@ -1,3 +1,5 @@
+%% SPDX-License-Identifier: Apache-2.0
+
 %% Starts of a client, the errors of starts that fail, and several clients of one node.
 -module(start_cases).
 

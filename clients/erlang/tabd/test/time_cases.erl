@@ -1,3 +1,5 @@
+%% SPDX-License-Identifier: Apache-2.0
+
 %% Limits of time: for a connection, for one of the pool, for a reply, and for a lock.
 -module(time_cases).
 

@@ -1,3 +1,4 @@
+# SPDX-License-Identifier: Apache-2.0
 """The operator's programs: `python3 -m tabd`, or `tabd-cli` if it is installed.
 
 A module has a group of them. Each adds its commands to the parser (`add`). A command's function takes the parsed arguments and returns the

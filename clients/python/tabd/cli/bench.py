@@ -1,3 +1,4 @@
+# SPDX-License-Identifier: Apache-2.0
 """`bench`: a load on a table of its own, with a progress line, and a histogram of how long requests took at its end.
 
 Each connection has a process of its own, so that Python's lock is not what is measured; with many connections the clients still take most of

@@ -1,3 +1,4 @@
+# SPDX-License-Identifier: Apache-2.0
 """What the programs share: the server's name, output and errors."""
 
 from __future__ import annotations

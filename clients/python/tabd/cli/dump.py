@@ -1,3 +1,4 @@
+# SPDX-License-Identifier: Apache-2.0
 """`dump FILE TABLE..` and `restore FILE`: tables as of one commit, in a file.
 
 Why a dump is the state of one commit. A transaction takes the read lock of each table, one after another. Once it has them all, no other

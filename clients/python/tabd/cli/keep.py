@@ -1,3 +1,4 @@
+# SPDX-License-Identifier: Apache-2.0
 """`keep FOLDER TABLE..`: keeps tables on a disk, and makes them again for a server that comes back empty.
 
 What it does. It takes a dump of the tables as of one commit (dump.py), and writes the commits after it to a log as they arrive, each whole

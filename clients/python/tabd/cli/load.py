@@ -1,3 +1,4 @@
+# SPDX-License-Identifier: Apache-2.0
 """Writes many records, or applies many changes, in few requests: one-shots below the server's limits, of which several are under way."""
 
 from __future__ import annotations

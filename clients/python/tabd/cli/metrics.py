@@ -1,3 +1,4 @@
+# SPDX-License-Identifier: Apache-2.0
 """The server's page of metrics (`tabd serve --metrics`)."""
 
 from __future__ import annotations

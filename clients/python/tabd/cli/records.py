@@ -1,3 +1,4 @@
+# SPDX-License-Identifier: Apache-2.0
 """Commands on records and tables: read, all, match, write, delete, create, drop, info, tables."""
 
 from __future__ import annotations

@@ -1,3 +1,4 @@
+# SPDX-License-Identifier: Apache-2.0
 """The folder of `keep`: a dump, and a log of the commits after it.
 
     token            which folder this is: the server is marked with it

@@ -1,3 +1,4 @@
+# SPDX-License-Identifier: Apache-2.0
 """Terms as text, in Erlang's syntax.
 
     abc 'any text' _           atoms; a bare `_` is the atom '_', as a pattern has it

@@ -1,3 +1,4 @@
+# SPDX-License-Identifier: Apache-2.0
 """`top`: the server's metrics, refreshed."""
 
 from __future__ import annotations

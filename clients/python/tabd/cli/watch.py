@@ -1,3 +1,4 @@
+# SPDX-License-Identifier: Apache-2.0
 """`watch`: the events of tables, a line for each."""
 
 from __future__ import annotations

@@ -1,3 +1,4 @@
+# SPDX-License-Identifier: Apache-2.0
 """A connection that hands on what comes as bytes, so that a table of any size goes through little memory.
 
 The client's own connection decodes each frame whole; a dump of a million records would take half a gigabyte so."""

@@ -15,8 +15,7 @@ enum Shape {
     Atomic(&'static [Shape]),
 }
 
-/// Answers, and the payload of the list that they are, spelled by hand from the External Term
-/// Format.
+/// Answers, and the payload of their list, encoded by hand from the External Term Format.
 static ANSWERS: [(&[Shape], &str); 9] = [
     (&[], "83 6A"),
     (&[Shape::Done], "83 6C00000001 77026F6B 6A"),
@@ -94,7 +93,7 @@ fn framed(alloc: Global, answers: &Answers) -> Result<Vec<u8>, Fail> {
     Ok(out)
 }
 
-/// Whether these answers are framed as their term is, and as this payload.
+/// Returns whether these answers are framed as their term is, and as this payload.
 fn are_spelled(alloc: Global, answers: &Answers, payload: &[u8]) -> Result<bool, Fail> {
     let told = framed(alloc, answers)?;
     let mut built = Vec::new(alloc);

@@ -107,7 +107,7 @@ static REFUSED: [(&str, Fault, usize); 36] = [
     ("83 74 FFFFFFFF 6101 6A", Fault::Truncated, 9),
 ];
 
-/// What a term is written as. Empty where it is said to be of another length.
+/// The payload of a term. Empty if `encoded_len` gives another length.
 fn spelled(alloc: Global, term: &Term) -> Result<Vec<u8>, Fail> {
     let mut out = Vec::new(alloc);
     encode(term, &mut out)?;
@@ -117,7 +117,7 @@ fn spelled(alloc: Global, term: &Term) -> Result<Vec<u8>, Fail> {
     Ok(out)
 }
 
-/// Whether the payload's term is written as this.
+/// Returns whether the payload's term is written as this.
 fn is_respelled(alloc: Global, payload: &[u8], want: &[u8]) -> Result<bool, Fail> {
     let out = spelled(alloc, &decode(alloc, payload)?)?;
     Ok(out.as_slice() == want)

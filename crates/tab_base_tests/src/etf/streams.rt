@@ -71,7 +71,7 @@ fn a_long_frame_comes_byte_by_byte(rt: HostRuntime) -> Result<(), Fail> {
     Ok(())
 }
 
-/// Their payloads, each read by itself, and nothing behind them.
+/// Their payloads, each read by itself, and nothing after them.
 #[test]
 fn frames_are_read_one_after_the_other(rt: HostRuntime) -> Result<(), Fail> {
     let alloc = rt.alloc();

@@ -1,4 +1,4 @@
-//! Terms: their order, their copies, patterns and numbers, against tables from outside. A term stands as its payload.
+//! Terms: their order, their copies, patterns and numbers, against tables from outside. A term is given as its payload.
 
 use std::alloc::Global;
 use std::test::Fail;
@@ -7,7 +7,7 @@ use tab_key::Abbreviate;
 use tab_term::{Atom, Term, has_wildcard, matches};
 use tab_test_tools::bytes;
 
-/// Terms, ascending by the bytes of their spellings, as a program in another language spelled and sorted them.
+/// Terms, ascending by the bytes of their encodings, as a program in another language encoded and sorted them.
 static ASCENDING: [&str; 60] = [
     "83 6100",
     "83 6101",
@@ -101,7 +101,7 @@ static PATTERNS: [(&str, &str, bool, bool); 11] = [
     ),
 ];
 
-/// A term, its depth, and its number: the tag of the spelling, and what comes next.
+/// A term, its depth, and its number: the tag of the encoding, and its weight.
 static NUMBERS: [(&str, u64, u64); 11] = [
     ("83 6107", 1, 0x0061_0000_0000_0007),
     ("83 6200000100", 1, 0x0062_0000_0000_0100),

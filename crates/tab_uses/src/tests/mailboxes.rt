@@ -11,7 +11,7 @@ use tab_model::{Ending, Item, SharedItem};
 use tab_post::{Channel, Host, Naming, Opened};
 use tab_term::Atom;
 
-/// Whether the end mark of a table comes out.
+/// Returns whether the end mark of a table comes out.
 fn comes_out<H: Host>(rt: H, alloc: Global, opened: Opened<Channel>) -> Result<bool, Fail>
     requires { opened ≡ H.book }
 {

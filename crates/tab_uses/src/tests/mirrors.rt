@@ -1,4 +1,4 @@
-//! A mirror that is fed what its session was told.
+//! A mirror that is fed the items of its session.
 
 use crate::feed_all;
 use std::alloc::Global;

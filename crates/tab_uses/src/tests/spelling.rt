@@ -1,4 +1,4 @@
-//! Terms that come back, and payloads that are written anew.
+//! Terms that come back, and payloads that are written again.
 
 use crate::{AgainFault, PayloadFault, append_canonical, term_again};
 use std::alloc::{AllocError, Global};
@@ -73,7 +73,7 @@ fn others_do_not(rt: HostRuntime) -> Result<(), Fail> {
     Ok(())
 }
 
-/// Payloads; the fault of each and its place, where it is no term; and what stands behind the byte 7 then.
+/// Payloads; the fault of each and its position, if it is no term; and the bytes after the byte 7 then.
 static PAYLOADS: [(&[u8], Option<(Fault, usize)>, &[u8]); 8] = [
     (b"\x83a\x01", None, b"\x07\x83a\x01"),
     (b"\x83b\x00\x00\x00\x01", None, b"\x07\x83a\x01"),

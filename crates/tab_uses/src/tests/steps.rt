@@ -1,4 +1,4 @@
-//! A run of steps, and a command behind it.
+//! A run of steps, and a command after it.
 
 use crate::{core_after, reply_to};
 use std::alloc::{AllocError, Global};
@@ -25,7 +25,7 @@ fn run(alloc: Global) -> Result<(Core<RingPost>, Vec<SharedReply>), AllocError> 
     core_after(alloc, LIMITS, steps)
 }
 
-/// What a reply is in one number.
+/// A reply as one number.
 fn number(told: &SharedReply) -> u64 {
     match told.reply() {
         Reply::Done => 10,

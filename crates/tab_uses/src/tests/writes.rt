@@ -1,4 +1,4 @@
-//! Writes at a shared book, beside a session that holds a lock.
+//! Writes at a shared book, while another session holds a lock.
 
 ghost use Rattle.std.specs.Prelude.{◌≡◌};
 
