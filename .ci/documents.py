@@ -19,18 +19,19 @@ counts, and `--reset` sets them.
 """
 
 import glob
-import io
 import os
 import re
 import socket
 import subprocess
 import sys
+from typing import Dict, Iterable, Iterator, List, Optional, Sequence, Set, Tuple
 
 HERE = os.path.dirname(os.path.abspath(__file__))
 TOP = os.path.dirname(HERE)
-sys.path.insert(0, os.path.join(TOP, "examples"))
+sys.path.insert(0, TOP)
 import words  # noqa: E402
-from frames import frame, read, spell, take  # noqa: E402
+from tests.lib.notation import terms_of  # noqa: E402
+from tests.lib.wire import frame, frames_of, spell, term_of  # noqa: E402
 from words import DOCUMENTS  # noqa: E402
 from lengths import faults as long_parts  # noqa: E402
 
@@ -85,10 +86,9 @@ ESCAPE = re.compile(r"\\x[0-9a-f]{2}")
 BYTES = re.compile(r"[0-9A-F]{8}(?: [0-9A-F]+)*")
 FRAME = re.compile(rf"    ([<>]) (.*?)(?:\s+({BYTES.pattern}))?")
 JOINS = re.compile(r"    \((\d+) to (\d+) join in the same way\)")
-TOKEN = re.compile(r"<<|>>|[{}\[\],]|-?\d+|[a-z][\w@]*|'[^']*'")
 
 
-def read_text(path):
+def read_text(path: str) -> str:
     with open(os.path.join(TOP, path), encoding="utf-8") as file:
         return file.read()
 
@@ -96,16 +96,19 @@ def read_text(path):
 class Tree:
     """The repository's files, the words of each crate's or folder's code, and the functions of each type."""
 
-    def __init__(self):
-        self.files, self.words, self.owned, self.texts = set(), {}, {}, {}
+    def __init__(self) -> None:
+        self.files: Set[str] = set()
+        self.words: Dict[str, Set[str]] = {}
+        self.owned: Dict[str, Set[str]] = {}
+        self.texts: Dict[str, str] = {}
         for folder, below, names in os.walk(TOP):
             below[:] = [it for it in below if it not in (".git", "out", "__pycache__") and not it.endswith("_cache")]
             self.files |= {os.path.relpath(os.path.join(folder, name), TOP) for name in names}
         for path in self.files:
             self.add(path)
-        self.all = set().union(*self.words.values())
+        self.all: Set[str] = set().union(*self.words.values())
 
-    def add(self, path):
+    def add(self, path: str) -> None:
         parts, (stem, ending) = path.split(os.sep), os.path.splitext(os.path.basename(path))
         words = self.words.setdefault(parts[1] if parts[0] == "crates" and len(parts) > 2 else parts[0], set())
         # A module of specs or proofs is named as its file, an edit too.
@@ -119,7 +122,7 @@ class Tree:
             if ending in (".rt", ".antt"):
                 self.own(text)
 
-    def own(self, text):
+    def own(self, text: str) -> None:
         """Functions, variants and fields are indented by one step, under the head of their type."""
         owner = None
         for line in text.split("\n"):
@@ -128,7 +131,7 @@ class Tree:
             elif owner and (found := MEMBER.match(line)):
                 self.owned.setdefault(owner, set()).add(found[1])
 
-    def has(self, path, document):
+    def has(self, path: str, document: str) -> bool:
         """Whether a path is below the top, the crates, or the document's own folder; a definition's path has no ending."""
         place = re.sub(r"\b[A-Z_]{2,}\b", "*", path).rstrip("/")
         for base in ("", "crates", "crates/*", "crates/*/src", "clients/*", "clients/erlang/tabd", os.path.dirname(document)):
@@ -137,38 +140,39 @@ class Tree:
         return False
 
 
-def owner_of(head):
+def owner_of(head: str) -> Optional[str]:
     """The type of an impl's first line, without the parameters of either, or of its own definition."""
     if found := TYPE.match(head):
         return found[1]
     while head != (bare := re.sub(r"<[^<>]*>", "", head.replace("->", ""))):
         head = bare
     found = re.match(r"impl (?:.* for )?&?(?:mut )?(\w+)", head)
-    return found and found[1]
+    return found[1] if found else None
 
 
 class Document:
-    def __init__(self, path, tree):
-        self.path, self.tree, self.faults, self.count = path, tree, [], 0
+    def __init__(self, path: str, tree: Tree) -> None:
+        self.path, self.tree, self.count = path, tree, 0
+        self.faults: List[str] = []
         self.text = read_text(path)
 
-    def check(self, right, what):
+    def check(self, right: object, what: str) -> None:
         self.count += 1
         if not right:
             self.faults.append(f"{self.path}: {what}")
 
-    def names(self):
+    def names(self) -> None:
         crate = README.fullmatch(self.path)
         for line in FENCE.sub("", self.text).split("\n"):
             for path in LINK.findall(line):
                 self.check(self.tree.has(path, self.path), f"no file {path}")
             spans = SPAN.findall(line)
             files = [it for it in spans if line.startswith("|") and it.endswith(".rt") and self.tree.has(it, self.path)]
-            crates = crate and {crate[1]} | {it for it in self.tree.words if re.search(rf"\b{re.escape(it)}\b", line)}
+            crates = set() if not crate else {crate[1]} | {it for it in self.tree.words if re.search(rf"\b{re.escape(it)}\b", line)}
             for span in spans:
                 self.span(span, crates, files)
 
-    def span(self, span, crates, files):
+    def span(self, span: str, crates: Set[str], files: List[str]) -> None:
         if span in ELSEWHERE:
             return
         if self.path == MNESIA and ARITY.fullmatch(span):
@@ -182,7 +186,7 @@ class Document:
             for word in re.findall(r"(?<![\w.])[a-z_]\w+", OPTION.sub("", PATH.sub("", span))):
                 self.check(word in self.tree.all, f"no word {word}")
 
-    def name(self, name, crates, files):
+    def name(self, name: str, crates: Set[str], files: List[str]) -> None:
         """A type's function in its type; another name in the row's one file, or in the crates that the line may speak of."""
         if self.path == MNESIA or self.path == PROTOCOL and name[0].isupper():
             return
@@ -193,10 +197,10 @@ class Document:
             texts = [self.tree.texts[it] for it in self.tree.texts if it.endswith("/" + files[0])]
             self.check(any(re.search(rf"\bfn {last}\b", text) for text in texts), f"no {name} in {files[0]}")
         elif not owner:
-            places = {*crates, *SHARED} if crates else self.tree.words
+            places: Iterable[str] = {*crates, *SHARED} if crates else self.tree.words
             self.check(name in self.tree.words or any(name in self.tree.words.get(it, ()) for it in places), f"no name {name}")
 
-    def layout(self):
+    def layout(self) -> None:
         lines = WRITTEN.sub(words.blank, self.text).split("\n")
         for number, (line, prose) in enumerate(zip(lines, words.prose_of(self.path)), 1):
             if line.lstrip().startswith("|"):
@@ -207,12 +211,12 @@ class Document:
                 text = LABEL.sub("", SPAN.sub("X", line), count=1)
                 self.check(not SENTENCE.search(text), f"line {number} has more than one sentence")
 
-    def headings(self):
+    def headings(self) -> None:
         for name, head in HEADING.findall(self.text):
             path = next((it for it in (f"docs/{name}", name) if it in self.tree.files), None)
             self.check(path and f"\n## {' '.join(head.split())}" in read_text(path), f"no section {head!r} in {name}")
 
-    def options(self, program, rt):
+    def options(self, program: str, rt: Optional[str]) -> None:
         if self.path == OPERATING:
             program += "".join(text for path, text in self.tree.texts.items() if path.startswith(CLI))
         for line in self.text.split("\n"):
@@ -227,19 +231,19 @@ class Document:
                 self.check(known, f"no option {option}")
 
 
-def unexplained(tree):
+def unexplained(tree: Tree) -> List[str]:
     """The files of definitions that have no comment, which docs/MAP.md, "Definitions", lists."""
     files = sorted(it for it in tree.files if re.fullmatch(r"crates/\w+/specs/(?!Lib)\w+\.antt", it))
     return [it for it in files if not re.search(r"^--", tree.texts[it], re.M)]
 
 
-def pageless(tree):
+def pageless(tree: Tree) -> List[str]:
     """The crates without a README.md."""
     crates = re.findall(r"^(\w+):", read_text("crates.txt"), re.M)
     return [it for it in crates if os.path.join("crates", it, "README.md") not in tree.files]
 
 
-def text_of(words):
+def text_of(words: Sequence[str]) -> Optional[str]:
     """A program's output; None if the program is not installed."""
     try:
         return subprocess.run(words, stdout=subprocess.PIPE, stderr=subprocess.STDOUT, text=True, check=False).stdout
@@ -247,45 +251,31 @@ def text_of(words):
         return None
 
 
-def term_of(text):
-    """A term as Erlang writes it."""
-    tokens = TOKEN.findall(text)
-
-    def term(at):
-        word = tokens[at]
-        close = {"{": "}", "[": "]", "<<": ">>"}.get(word)
-        if close is None:
-            return (int(word) if word.lstrip("-").isdigit() else word.strip("'")), at + 1
-        members, at = [], at + 1
-        while tokens[at] != close:
-            member, at = term(at + (tokens[at] == ","))
-            members.append(member)
-        return {"{": tuple, "[": list, "<<": bytes}[word](members), at + 1
-
-    return term(0)[0]
-
-
 class Listing:
     """Frames of requests and replies, from a first one on, and the terms next to them."""
 
-    def __init__(self, lines):
-        self.asked, self.told, self.terms = [], [], []
+    def __init__(self, lines: Iterable[str]) -> None:
+        self.asked: List[bytes] = []
+        self.told: List[bytes] = []
+        self.terms: List[Tuple[str, bytes]] = []
         for line in lines:
             if joins := JOINS.fullmatch(line):
                 for session in range(int(joins[1]), int(joins[2]) + 1):
                     self.asked.append(frame((session, "join")))
                     self.told.append(frame((session, "ok")))
-            else:
-                side, text, digits = FRAME.fullmatch(line).groups()
+            elif found := FRAME.fullmatch(line):
+                side, text, digits = found.groups()
                 data = bytes.fromhex(digits)
                 (self.asked if side == ">" else self.told).append(data)
                 self.terms.append((text, data))
+            else:
+                raise ValueError(f"no frame: {line}")
 
-    def is_served(self):
+    def is_served(self) -> bool:
         return self.told[0][5:].startswith(spell(("reply", "ok"))[:9])
 
 
-def listings(text):
+def listings(text: str) -> Iterator[Listing]:
     """The page's blocks whose lines have frames. Bytes that don't fit next to their term are on the next line."""
     text = re.sub(rf"\n +(?={BYTES.pattern}$)", "  ", text, flags=re.M)
     for block in re.findall(r"(?:^    .*\n)+", text, re.M):
@@ -293,52 +283,48 @@ def listings(text):
             yield Listing(block.rstrip("\n").split("\n"))
 
 
-def frames_of(data):
-    stream, frames = io.BytesIO(data), []
-    while head := stream.read(4):
-        frames.append(head + take(stream, int.from_bytes(head, "big")))
-    return frames
-
-
-def served(program, listing):
+def served(program: str, listing: Listing) -> List[bytes]:
     """The frames that a connection receives: replies, and events between them, in no order relative to them."""
     server = subprocess.Popen([program, "serve", "--port", "0", "--connections", "1"], stdout=subprocess.PIPE)
+    assert server.stdout
     try:
         port = int(server.stdout.readline().rsplit(b":", 1)[1])
         with socket.create_connection(("127.0.0.1", port), 10) as connection:
             connection.sendall(b"".join(listing.asked))
             connection.shutdown(socket.SHUT_WR)
-            return frames_of(b"".join(iter(lambda: connection.recv(65_536), b"")))
+            return frames_of(b"".join(iter(lambda: connection.recv(65_536), b"")))[0]
     finally:
         server.kill()
         server.wait()
 
 
-def replayed(program, given):
-    return frames_of(subprocess.run([program, "replay"], input=given, capture_output=True, check=False).stdout)
+def replayed(program: str, given: bytes) -> List[bytes]:
+    return frames_of(subprocess.run([program, "replay"], input=given, capture_output=True, check=False).stdout)[0]
 
 
-def parted(frames):
+def parted(frames: List[bytes]) -> Tuple[List[bytes], List[bytes]]:
     """Replies, and other frames."""
-    is_reply = lambda it: it[5:].startswith(spell(("reply", "ok"))[:9])
-    return [it for it in frames if is_reply(it)], [it for it in frames if not is_reply(it)]
+    replies = [it for it in frames if it[5:].startswith(spell(("reply", "ok"))[:9])]
+    return replies, [it for it in frames if it not in replies]
 
 
-def listing_faults(program, listing):
+def listing_faults(program: str, listing: Listing) -> Iterator[str]:
     for text, data in listing.terms:
-        wanted = bytes(4) if text == "an empty payload" else frame(term_of(text))
-        if data != wanted:
-            yield f"{text}: its bytes are {wanted.hex()}"
+        its = bytes(4) if text == "an empty payload" else frame(next(terms_of(text)))
+        if data != its:
+            yield f"{text}: its bytes are {its.hex()}"
     told = served(program, listing) if listing.is_served() else replayed(program, b"".join(listing.asked))
-    pairs = zip(parted(told), parted(listing.told)) if listing.is_served() else [(told, listing.told)]
+    pairs = [(told, listing.told)]
+    if listing.is_served():
+        pairs = list(zip(parted(told), parted(listing.told)))
     for found, wanted in pairs:
         if found != wanted:
             at = next((at for at, pair in enumerate(zip(found, wanted)) if pair[0] != pair[1]), min(len(found), len(wanted)))
-            shown = [read(io.BytesIO(it[at][5:])) if at < len(it) else None for it in (found, wanted)]
+            shown = [term_of(it[at]) if at < len(it) else None for it in (found, wanted)]
             yield f"frame {at + 1}: the program sends {shown[0]} ({found[at].hex() if at < len(found) else ''}), the page has {shown[1]}"
 
 
-def term_faults(program, text):
+def term_faults(program: str, text: str) -> Iterator[str]:
     """The table of single terms: the reply to an abort with each as its reason has the bytes of the table."""
     rows = re.findall(r"^\| (`[^|]*` \| `[0-9A-F ]+` \|.*)$", text, re.M)
     cells = [cell for row in rows for cell in re.findall(r"`([^`]*)`", row)]
@@ -348,19 +334,21 @@ def term_faults(program, text):
         payload = b"\x83" + spell((1, ("abort", 0)))[:-2] + data
         asked += [frame((1, "begin")), len(payload).to_bytes(4, "big") + payload]
     for (term, data), told in zip(terms, replayed(program, b"".join(asked))[2::2]):
-        if spell(term_of(term)) != data or not told.endswith(spell((1, ("aborted", 0)))[:-2] + data):
-            yield f"{term}: the program writes {told.hex()}, and its bytes are {spell(term_of(term)).hex()}"
+        its = spell(next(terms_of(term)))
+        if its != data or not told.endswith(spell((1, ("aborted", 0)))[:-2] + data):
+            yield f"{term}: the program writes {told.hex()}, and its bytes are {its.hex()}"
 
 
-def main():
+def main() -> None:
     if len(sys.argv) != 2:
         sys.exit(__doc__)
     if sys.argv[1] in ("--write", "--reset"):
         return words.write(reset=sys.argv[1] == "--reset")
     program, tree = os.path.abspath(sys.argv[1]), Tree()
-    helps = "".join(text_of([program, *words, "--help"]) for words in ([], ["serve"], ["replay"])) + "--help --version"
-    rt, faults, count = text_of(["rt", "help"]), [], 0
-    faults += [f"{it}: no comment says what it defines" for it in unexplained(tree)]
+    commands: List[List[str]] = [[], ["serve"], ["replay"]]
+    helps = "".join(text_of([program, *it, "--help"]) or "" for it in commands) + "--help --version"
+    rt, count = text_of(["rt", "help"]), 0
+    faults = [f"{it}: no comment says what it defines" for it in unexplained(tree)]
     faults += [f"{it}: the crate has no README.md" for it in pageless(tree)]
     for path in sorted(os.path.relpath(it, TOP) for pattern in DOCUMENTS for it in glob.glob(os.path.join(TOP, pattern))):
         document = Document(path, tree)

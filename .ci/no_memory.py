@@ -15,6 +15,7 @@ import collections
 import os
 import re
 import sys
+from typing import Counter, Iterator, List, Tuple
 
 HERE = os.path.dirname(os.path.abspath(__file__))
 CRATES = os.path.join(HERE, "..", "crates")
@@ -29,14 +30,16 @@ SKIPPED = re.compile(r"\s*(use|pub use|ghost|ensures|requires|impl|#\[)\b")
 # What brings the words in under another name, or without their type's.
 HIDDEN = re.compile(r"\buse\b.*(\b(AllocError|AllocFailed|NoMemory) as\b|::\{?[^;]*\bNoMemory\b|(Reply|Fault|Ended|ReadError)::(\*|\{))")
 FUNCTION = re.compile(r"\bfn (\w+)")
+# A file, a function and a line's text.
+Place = Tuple[str, ...]
 
 
-def code_of(line):
+def code_of(line: str) -> str:
     """The line without its comment, and without what stands before an arm's arrow: patterns are no values."""
     return line.split("//")[0].rsplit("=>", 1)[-1]
 
 
-def places_in(path):
+def places_in(path: str) -> Iterator[Tuple[str, str]]:
     """The function and the text of each line that has the answer as a value."""
     function = ""
     with open(path, encoding="utf-8") as file:
@@ -48,9 +51,9 @@ def places_in(path):
                 yield function, " ".join(line.split())
 
 
-def places():
+def places() -> Counter[Place]:
     """How often each file, function and text stands there."""
-    found = collections.Counter()
+    found: Counter[Place] = collections.Counter()
     for crate in sorted(os.listdir(CRATES)):
         for folder, _, names in sorted(os.walk(os.path.join(CRATES, crate, "src"))):
             for name in sorted(names) if not OTHERS.search(crate) else ():
@@ -60,9 +63,10 @@ def places():
     return found
 
 
-def listed():
+def listed() -> Tuple[Counter[Place], List[str]]:
     """The same of the list. Each row has its reason."""
-    rows, faults = collections.Counter(), []
+    rows: Counter[Place] = collections.Counter()
+    faults: List[str] = []
     with open(LIST, encoding="utf-8") as file:
         for number, line in enumerate(file, 1):
             if not line.strip() or line.startswith("#"):
@@ -75,7 +79,7 @@ def listed():
     return rows, faults
 
 
-def main():
+def main() -> None:
     found = places()
     if sys.argv[1:] == ["list"]:
         for place, count in found.items():

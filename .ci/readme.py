@@ -15,6 +15,7 @@ import shutil
 import subprocess
 import sys
 import tempfile
+from typing import Any, Dict, Iterator, List, Optional, Tuple, Union
 
 TOP = os.path.join(os.path.dirname(os.path.abspath(__file__)), "..")
 SESSION = re.compile(r"^```(pycon|erlang)\n(.*?)^```", re.M | re.S)
@@ -27,21 +28,23 @@ SERVER = re.compile(r"^    \$ .*\bserve --port (\d+) (.*)$", re.M)
 PROMPT = re.compile(r"^\d+> (.*)\n((?:(?!\d+> ).*\n)*)", re.M)
 
 
-def serve(program, options):
+def serve(program: str, options: str) -> Tuple["subprocess.Popen[str]", str]:
     server = subprocess.Popen([program, "serve", "--port", "0", *options.split()], stdout=subprocess.PIPE, text=True)
+    assert server.stdout
     return server, server.stdout.readline().strip().rsplit(":", 1)[1]
 
 
 class Python:
     """One session, whose names stay from block to block."""
 
-    def __init__(self, path):
+    def __init__(self, path: str) -> None:
         sys.path.insert(0, f"{TOP}/clients/python")
-        self.path, self.names = path, {}
+        self.path = path
+        self.names: Dict[str, Any] = {}
 
-    def differs(self, text):
+    def differs(self, text: str) -> str:
         test = doctest.DocTestParser().get_doctest(text, self.names, self.path, self.path, 0)
-        told = []
+        told: List[str] = []
         doctest.DocTestRunner().run(test, out=told.append, clear_globs=False)
         self.names = test.globs
         return "".join(told)
@@ -50,12 +53,12 @@ class Python:
 class Erlang:
     """A node of its own for each block, in the folder of the client's modules."""
 
-    def __init__(self, room):
+    def __init__(self, room: str) -> None:
         self.room = room
         sources = [f"{TOP}/clients/erlang/tabd/src/{it}" for it in sorted(os.listdir(f"{TOP}/clients/erlang/tabd/src")) if it.endswith(".erl")]
         subprocess.run(["erlc", "-o", room, *sources], check=True)
 
-    def differs(self, text):
+    def differs(self, text: str) -> str:
         asked = PROMPT.findall(text)
         steps = ",".join(f'"{expression}"' for expression, _ in asked)
         code = (
@@ -69,7 +72,7 @@ class Erlang:
         return "" if told == wanted else f"printed {told!r}, wanted {wanted!r}\n"
 
 
-def pipe_differs(text, program):
+def pipe_differs(text: str, program: str) -> str:
     """A replay between two programs that write and show frames; the reader ends after a line, and none of them prints an error."""
     found = PIPE.search(text)
     words = f"{found[1]} | {program} replay | {found[2]} | head -n 1" if found else "echo 'the document has no pipe'"
@@ -78,27 +81,28 @@ def pipe_differs(text, program):
     return "" if told == ("(1, 'ok')\n", "") else f"{words}: {told}\n"
 
 
-def differences(path, program, erlang):
+def differences(path: str, program: str, erlang: Optional[Erlang]) -> Iterator[str]:
     """The difference of each session that is run."""
     with open(f"{TOP}/{path}", encoding="utf-8") as file:
         text = file.read()
-    shells = {"pycon": Python(path), "erlang": erlang}
+    shells: Dict[str, Union[Python, Erlang, None]] = {"pycon": Python(path), "erlang": erlang}
     servers = {port: serve(program, options) for port, options in SERVER.findall(text)}
     try:
         for kind, session in SESSION.findall(text):
-            if not shells[kind]:
+            shell = shells[kind]
+            if not shell:
                 print("no erlc: Erlang's session was skipped, and those after it")
                 return
             for port, (_, free) in servers.items():
                 session = re.sub(rf"\b{port}\b", free, session)
-            yield shells[kind].differs(session)
+            yield shell.differs(session)
     finally:
         for server, _ in servers.values():
             server.kill()
             server.wait()
 
 
-def main():
+def main() -> None:
     if len(sys.argv) != 2:
         sys.exit(__doc__)
     program = os.path.abspath(sys.argv[1])

@@ -7,6 +7,7 @@ import glob
 import os
 import re
 import subprocess
+from typing import Dict, Iterable, List, Optional, Set, Tuple
 
 TOP = os.path.dirname(os.path.dirname(os.path.abspath(__file__)))
 NUMBERS = ".ci/words.tsv"
@@ -19,22 +20,22 @@ CODE = re.compile(r"^ *```.*?^ *```|(?<=\n\n) {4}[^\n]*(?:\n {4}[^\n]*)*|`[^`]*`
 COMMENT = re.compile(r'"(?:\\.|[^"\\])*"|\'(?:\\.|[^\'\\])\'|//([^\n]*)', re.S)
 
 
-def read(path):
+def read(path: str) -> str:
     with open(os.path.join(TOP, path), encoding="utf-8") as file:
         return file.read()
 
 
-def files(patterns):
+def files(patterns: Iterable[str]) -> List[str]:
     paths = {it for pattern in patterns for it in glob.glob(os.path.join(TOP, pattern), recursive=True)}
     return sorted(os.path.relpath(it, TOP) for it in paths if "/out/" not in it)
 
 
-def blank(found):
+def blank(found: "re.Match[str]") -> str:
     """As many empty lines, so that those after it keep their numbers."""
     return "\n" * found[0].count("\n")
 
 
-def prose_of(path):
+def prose_of(path: str) -> List[str]:
     """A document without its code, or the comments of a source, line by line."""
     text = read(path)
     if path.endswith(".rt"):
@@ -43,16 +44,16 @@ def prose_of(path):
     return CODE.sub(blank, TABLE.sub(blank, text)).split("\n")
 
 
-def listed():
+def listed() -> List[str]:
     """The words of the table."""
     rows = TABLE.search(read("CONTRIBUTING.md"))
     cells = [row.split("|")[1] for row in rows[1].strip().split("\n")] if rows else []
     return [word.strip() for cell in cells for word in cell.split(",")]
 
 
-def places(words):
+def places(words: List[str]) -> Dict[str, List[str]]:
     """The lines that have each word, once for each use."""
-    found = {word: [] for word in words}
+    found: Dict[str, List[str]] = {word: [] for word in words}
     one = re.compile(rf"(?<![\w-])({'|'.join(re.escape(it) for it in sorted(words, key=len, reverse=True))})(?![\w-])", re.I)
     for path in files(DOCUMENTS) + files(SOURCES):
         for number, line in enumerate(prose_of(path), 1):
@@ -61,14 +62,14 @@ def places(words):
     return found
 
 
-def numbers():
+def numbers() -> Dict[str, int]:
     if not os.path.exists(os.path.join(TOP, NUMBERS)):
         return {}
     rows = [line.split("\t") for line in read(NUMBERS).split("\n") if line and not line.startswith("#")]
     return {word: int(number) for word, number in rows}
 
 
-def write(reset):
+def write(reset: bool) -> None:
     """Lowers the numbers to the current counts; `reset` sets them, and may raise them."""
     old = numbers()
     new = {word: len(lines) if reset else min(len(lines), old.get(word, 0)) for word, lines in places(listed()).items()}
@@ -78,14 +79,15 @@ def write(reset):
     print(f"{NUMBERS}: {sum(old.values())} uses before, {sum(new.values())} now")
 
 
-def added():
+def added() -> Set[str]:
     """The lines that are new since the numbers were committed; none if git does not know."""
     git = ["git", "-C", TOP]
     since = subprocess.run([*git, "log", "-1", "--format=%H", "--", NUMBERS], capture_output=True, text=True, check=False).stdout.strip()
     if not since:
         return set()
     asked = [*git, "diff", "-U0", "--no-prefix", since, "--", "*.md", "*.rt"]
-    lines, path = set(), None
+    lines: Set[str] = set()
+    path = ""
     for line in subprocess.run(asked, capture_output=True, text=True, check=False).stdout.split("\n"):
         if line.startswith("+++ "):
             path = line[4:]
@@ -94,9 +96,10 @@ def added():
     return lines
 
 
-def faults():
+def faults() -> Tuple[int, List[str]]:
     """How many words were counted, and a line for each that is used more often than its number."""
-    most, found, fresh = numbers(), places(listed()), None
+    most, found = numbers(), places(listed())
+    fresh: Optional[Set[str]] = None
     risen = []
     for word, lines in found.items():
         more = len(lines) - most.get(word, 0)

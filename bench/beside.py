@@ -19,10 +19,11 @@ import subprocess
 import sys
 import tempfile
 import time
+from typing import Dict, Iterator, List, Sequence, Tuple, Union
 
 HERE = os.path.dirname(os.path.abspath(__file__))
-sys.path.insert(0, os.path.join(HERE, "..", "examples"))
-from frames import frame, spell, take  # noqa: E402
+sys.path.insert(0, os.path.join(HERE, ".."))
+from tests.lib.wire import Term, frame, spell, take  # noqa: E402
 
 MILLISECONDS = int(os.environ.get("LOAD_MS", "1500"))
 ROUNDS = int(os.environ.get("ROUNDS", "5"))
@@ -45,39 +46,40 @@ LOADS = [
 CONNECTIONS = (1, 16)
 
 
-def places(data, key):
+def places(data: bytes, key: bytes) -> List[int]:
     return [found.start() for found in re.finditer(re.escape(key), data)]
 
 
-def frame_steps(load):
+def frame_steps(load: str) -> List[Tuple[Term, Term]]:
     """Requests with the beginnings of their replies, as terms of which the last part may differ."""
     write, found = ("write", ("t", KEY, VALUE)), ("read", "t", KEY)
     begin, commit = ("begin", ("tid", 1)), ("commit", ("atomic", 1))
-    return {
+    steps: Dict[str, List[Tuple[Term, Term]]] = {
         "one-shot of a write": [(("transaction", [write], 1_000), ("atomic", ["ok"]))],
         "begin, write, commit": [begin, (write, "ok"), commit],
         "one-shot of a read": [(("transaction", [found], 1_000), ("atomic", [[]]))],
         "begin, read, commit": [begin, (found, [("t", 0, VALUE)]), commit],
         "one-shot of 100 writes": [(("transaction", [write] * MANY, 1_000), ("atomic", ["ok"] * MANY))],
-    }[load]
+    }
+    return steps[load]
 
 
-def frame_plan(load):
+def frame_plan(load: str) -> str:
     lines = []
     for request, reply in frame_steps(load):
         data, whole = frame(request), b"\x83" + spell(("reply", reply))
         # Of a reply it is compared that it is of its kind: ages, numbers and records differ.
-        size = {list: BEFORE + 1, tuple: BEFORE + 2 + len(spell(reply[0])), str: len(whole)}[type(reply)]
-        wanted = whole[:size]
+        sizes: Dict[type, int] = {list: BEFORE + 1, tuple: BEFORE + 2 + len(spell(reply[0])), str: len(whole)}
+        wanted = whole[: sizes[type(reply)]]
         lines.append(" ".join(["1", wanted.hex(), data.hex(), *map(str, places(data, KEY.to_bytes(4, "big")))]))
     return "\n".join(lines) + "\n"
 
 
-def command(*words):
+def command(*words: bytes) -> bytes:
     return b"".join([b"*%d\r\n" % len(words), *(b"$%d\r\n%s\r\n" % (len(word), word) for word in words)])
 
 
-def redis_plan(load):
+def redis_plan(load: str) -> str:
     multi, execute = command(b"MULTI"), command(b"EXEC")
     put, get = command(b"SET", DIGITS, VALUE), command(b"GET", DIGITS)
     steps = {
@@ -91,7 +93,7 @@ def redis_plan(load):
     return "\n".join(lines) + "\n"
 
 
-def ask(connection, data):
+def ask(connection: socket.socket, data: bytes) -> bytes:
     """The reply to one request of frames."""
     connection.sendall(data)
     stream = connection.makefile("rb")
@@ -103,8 +105,9 @@ class Framed:
 
     kind, plan = "frames", staticmethod(frame_plan)
 
-    def __init__(self, *words):
+    def __init__(self, *words: str) -> None:
         self.process = subprocess.Popen(words, stdout=subprocess.PIPE, stderr=subprocess.DEVNULL)
+        assert self.process.stdout
         self.port = int(self.process.stdout.readline().rsplit(b":", 1)[1])
         with socket.create_connection(("127.0.0.1", self.port)) as connection:
             ask(connection, frame(("create_table", "t", [])))
@@ -117,7 +120,7 @@ class Framed:
 class Redis:
     kind, plan = "redis", staticmethod(redis_plan)
 
-    def __init__(self):
+    def __init__(self) -> None:
         with socket.socket() as free:
             free.bind(("127.0.0.1", 0))
             self.port = free.getsockname()[1]
@@ -128,7 +131,7 @@ class Redis:
                 connection.sendall(command(b"SET", b"%08d" % key, VALUE))
                 connection.recv(100)
 
-    def connected(self):
+    def connected(self) -> socket.socket:
         for _ in range(100):
             try:
                 return socket.create_connection(("127.0.0.1", self.port))
@@ -137,7 +140,11 @@ class Redis:
         raise ValueError("redis-server does not listen")
 
 
-def rate(load_program, server, load, connections):
+# A server under a load.
+Server = Union[Framed, Redis]
+
+
+def rate(load_program: str, server: Server, load: str, connections: int) -> Tuple[float, float]:
     """Rounds a second. A reply that no load wants is an error."""
     words = [load_program, server.kind, str(server.port), str(connections), str(MILLISECONDS)]
     told = subprocess.run(words, input=server.plan(load), capture_output=True, text=True, check=True).stdout
@@ -147,11 +154,11 @@ def rate(load_program, server, load, connections):
     return rounds, restarts
 
 
-def figure(ratios):
+def figure(ratios: Sequence[float]) -> str:
     return f"{statistics.median(ratios):.2f} ({min(ratios):.2f} to {max(ratios):.2f})"
 
 
-def rows(load_program, servers):
+def rows(load_program: str, servers: Dict[str, Server]) -> Iterator[str]:
     """A row for each load, whose cells have a figure for each number of connections."""
     for text, load, of_redis in LOADS:
         cells = []
@@ -162,15 +169,15 @@ def rows(load_program, servers):
         yield f"| {text} ({of_redis}) | {' | '.join('; '.join(it) for it in zip(*cells))} |"
 
 
-def version(*words):
+def version(*words: str) -> str:
     return subprocess.run(words, capture_output=True, text=True, check=True).stdout.strip()
 
 
-def head():
+def head() -> List[str]:
     """The servers' versions, the machine, and the head of the table."""
     vsn = 'application:load(mnesia), {ok, V} = application:get_key(mnesia, vsn), io:format("~s", [V]), halt().'
     mnesia = version("erl", "-noshell", "-eval", vsn)
-    redis = re.search(r"v=(\S+)", version("redis-server", "--version"))[1]
+    [redis] = re.findall(r"v=(\S+)", version("redis-server", "--version"))
     with open("/proc/cpuinfo", encoding="utf-8") as file:
         found = re.search(r"model name\s*: (.*)", file.read())
     processor = found[1] if found else os.uname().machine
@@ -179,24 +186,26 @@ def head():
         f"The median of {ROUNDS} measurements is followed by the least and the greatest (`bench/beside.py`, {time.strftime('%Y-%m-%d')}).",
         f"All use sockets on one machine of {os.cpu_count()} hardware threads ({processor}), and {KEYS:,} records with values of {len(VALUE)} bytes.",
         "",
-        f"| Load (and Redis's commands) | tabd, rounds a second, with {CONNECTIONS[0]} and {CONNECTIONS[1]} connections | times Mnesia's rate | times Redis's rate |",
+        f"| Load (and Redis's commands) | tabd, rounds a second, with {CONNECTIONS[0]} and {CONNECTIONS[1]} connections"
+        " | times Mnesia's rate | times Redis's rate |",
         "|---|---|---|---|",
     ]
 
 
-def put_into(path, lines):
+def put_into(path: str, lines: List[str]) -> None:
     """Between the two lines of the document that name this program."""
     with open(path, encoding="utf-8") as file:
         text = file.read()
     mark = r"(<!-- bench/beside\.py -->\n).*?(<!-- end -->\n)"
-    text, count = re.subn(mark, lambda found: found[1] + "\n".join(lines) + "\n" + found[2], text, flags=re.S)
+    table = "\n".join([*lines, ""])
+    text, count = re.subn(mark, lambda found: str(found[1]) + table + str(found[2]), text, flags=re.S)
     if count != 1:
         sys.exit(f"{path}: no lines that name this program")
     with open(path, "w", encoding="utf-8") as file:
         file.write(text)
 
 
-def main():
+def main() -> None:
     words = sys.argv[1:]
     if len(words) not in (1, 3) or len(words) == 3 and words[1] != "--into":
         sys.exit(__doc__)
@@ -205,7 +214,8 @@ def main():
         print(f"other work is on this machine (load {busy:.1f}): these figures are for no document", file=sys.stderr)
         if len(words) == 3:
             sys.exit(1)
-    servers, lines = {}, head()
+    servers: Dict[str, Server] = {}
+    lines = head()
     with tempfile.TemporaryDirectory() as folder:
         load_program = os.path.join(folder, "beside")
         subprocess.run(["cc", "-O2", "-pthread", "-o", load_program, os.path.join(HERE, "beside.c")], check=True)

@@ -14,25 +14,26 @@ import subprocess
 import sys
 import tempfile
 import time
+from typing import Iterator, Tuple
 
 from beside import CONNECTIONS, HERE, LOADS, ROUNDS, Framed, figure, rate
 
 SERVE = ("serve", "--port", "0", "--connections", "64", "--forever")
 
 
-def used(process):
+def used(process: "subprocess.Popen[bytes]") -> float:
     """The processor time of all its threads, in seconds: the clock that clock_getcpuclockid(3) names."""
     return time.clock_gettime(~process.pid << 3 | 2)
 
 
-def measured(load_program, server, load, connections):
+def measured(load_program: str, server: Framed, load: str, connections: int) -> Tuple[float, float]:
     """The rate, and the processor time for a request."""
     before = used(server.process)
     found = rate(load_program, server, load, connections)[0]
     return found, (used(server.process) - before) / found
 
 
-def rows(load_program, plain, metered):
+def rows(load_program: str, plain: Framed, metered: Framed) -> Iterator[str]:
     for text, load, _ in LOADS:
         for connections in CONNECTIONS:
             ratios = []
@@ -44,7 +45,7 @@ def rows(load_program, plain, metered):
             yield f"{text}, {connections} connections: rate {figure(rates)}, processor time {figure(times)}"
 
 
-def main():
+def main() -> None:
     if len(sys.argv) != 2:
         sys.exit(__doc__)
     program, servers = sys.argv[1], []

@@ -18,6 +18,7 @@ import statistics
 import subprocess
 import sys
 import time
+from typing import Any, Callable, List, Optional, Tuple
 
 HERE = os.path.dirname(os.path.abspath(__file__))
 sys.path.insert(0, os.path.join(HERE, "..", "clients", "python"))
@@ -25,11 +26,14 @@ import tabd  # noqa: E402
 
 RECORDS, PART, EACH = 17_001, 500, 10
 VALUE = b"v" * 32
+# The least and the median.
+Times = Tuple[float, float]
 
 
-def times(do, seconds, clock=time.process_time, each=EACH):
+def times(do: Callable[[int], Any], seconds: float, clock: Callable[[], float] = time.process_time, each: int = EACH) -> Times:
     """The least and the median, in seconds, of what a call takes."""
-    found, end = [], time.monotonic() + seconds
+    found: List[float] = []
+    end = time.monotonic() + seconds
     do(each)
     while time.monotonic() < end or len(found) < 5:
         began = clock()
@@ -38,26 +42,27 @@ def times(do, seconds, clock=time.process_time, each=EACH):
     return min(found), statistics.median(found)
 
 
-def show(what, least_and_median, scale=1e6, unit="us"):
+def show(what: str, least_and_median: Times, scale: float = 1e6, unit: str = "us") -> None:
     least, median = (scale * it for it in least_and_median)
     print(f"{what}: {least:.1f} to {median:.1f} {unit}", flush=True)
 
 
-def serve(program):
+def serve(program: str) -> Tuple["subprocess.Popen[str]", int]:
     words = [program, "serve", "--port", "0", "--connections", "4", "--forever"]
     server = subprocess.Popen(words, stdout=subprocess.PIPE, text=True)
+    assert server.stdout
     return server, int(server.stdout.readline().rsplit(":", 1)[1])
 
 
-def of_tabd(client, seconds):
+def of_tabd(client: tabd.Client, seconds: float) -> Times:
     client.create_table("t")
 
-    def block(count):
+    def block(count: int) -> None:
         for key in range(count):
             with client.transaction() as t:
                 t.write(("t", key, VALUE))
 
-    def one_shot(count):
+    def one_shot(count: int) -> None:
         for key in range(count):
             client.one_shot().write(("t", key, VALUE)).run()
 
@@ -67,7 +72,7 @@ def of_tabd(client, seconds):
     return least
 
 
-def read(client, seconds):
+def read(client: tabd.Client, seconds: float) -> None:
     client.create_table("big")
     for start in range(0, RECORDS, PART):
         shot = client.one_shot()
@@ -75,7 +80,7 @@ def read(client, seconds):
             shot.write(("big", key, VALUE))
         shot.run()
 
-    def whole(count):
+    def whole(count: int) -> None:
         for _ in range(count):
             [records] = client.one_shot().match_object(("big", "_", "_")).run()
             assert len(records) == RECORDS
@@ -86,7 +91,7 @@ def read(client, seconds):
     show("tabd, decoding of a record", (least / RECORDS, median / RECORDS))
 
 
-def of_redis(seconds, port=6390):
+def of_redis(seconds: float, port: int = 6390) -> Optional[Times]:
     try:
         import redis
     except ImportError:
@@ -104,10 +109,10 @@ def of_redis(seconds, port=6390):
             except redis.ConnectionError:
                 time.sleep(0.05)
 
-        def block(count):
+        def block(count: int) -> None:
             for key in range(count):
                 with client.pipeline(transaction=True) as pipe:
-                    pipe.set(key, VALUE)
+                    pipe.set(str(key), VALUE)
                     pipe.execute()
 
         least = times(block, seconds)
@@ -118,7 +123,7 @@ def of_redis(seconds, port=6390):
         server.wait()
 
 
-def main():
+def main() -> None:
     parser = argparse.ArgumentParser(description=__doc__, formatter_class=argparse.RawDescriptionHelpFormatter)
     parser.add_argument("program")
     parser.add_argument("--seconds", type=float, default=3.0, help="for each measurement")

@@ -16,11 +16,11 @@ import statistics
 import subprocess
 import sys
 import tempfile
+from typing import Iterable, Iterator, Optional
 
 HERE = os.path.dirname(os.path.abspath(__file__))
-sys.path.insert(0, os.path.join(HERE, "..", "examples"))
-
-from frames import frame
+sys.path.insert(0, os.path.join(HERE, ".."))
+from tests.lib.wire import Term, frame  # noqa: E402
 
 OUTBOX = 65_536
 
@@ -40,7 +40,7 @@ ROWS = [
 ]
 
 
-def transactions(operations, size):
+def transactions(operations: Iterable[Term], size: int) -> Iterator[bytes]:
     """The frames of the first session's transactions of so many operations each."""
     frames = [frame((1, operation)) for operation in operations]
     begin, commit = frame((1, "begin")), frame((1, "commit"))
@@ -48,7 +48,7 @@ def transactions(operations, size):
         yield begin + b"".join(frames[at : at + size]) + commit
 
 
-def filled(records, watching, level):
+def filled(records: int, watching: int, level: Optional[str]) -> Iterator[bytes]:
     """A table of so many records, and then sessions that watch it."""
     yield frame((1, "join")) + frame((1, ("create_table", "t", [])))
     yield from transactions([("write", ("t", key, key)) for key in range(records)], 1_000)
@@ -56,7 +56,7 @@ def filled(records, watching, level):
         yield frame((session, "join")) + frame((session, ("subscribe", ("table", "t", level))))
 
 
-def seconds(program, stream):
+def seconds(program: str, stream: Iterable[bytes]) -> float:
     """The processor time of a replay."""
     with tempfile.TemporaryFile() as given:
         given.writelines(stream)
@@ -66,10 +66,10 @@ def seconds(program, stream):
         _, status, used = os.wait4(child.pid, 0)
     if status:
         sys.exit(f"{program} replay ended with {status}")
-    return used.ru_utime + used.ru_stime
+    return float(used.ru_utime + used.ru_stime)
 
 
-def main():
+def main() -> None:
     if len(sys.argv) < 2:
         sys.exit(__doc__)
     program, count = sys.argv[1], int(sys.argv[2]) if len(sys.argv) > 2 else 50_000

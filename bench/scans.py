@@ -12,8 +12,10 @@ import re
 import subprocess
 import sys
 import tempfile
+from typing import Iterable
 
-from replay import filled, frame
+from replay import filled
+from tests.lib.wire import frame  # noqa: E402
 
 RECORDS = 10_000
 SCANS = [
@@ -24,16 +26,17 @@ SCANS = [
 ]
 
 
-def instructions(program, stream):
+def instructions(program: str, stream: Iterable[bytes]) -> int:
     words = ["valgrind", "--tool=callgrind", "--callgrind-out-file=/dev/null", program, "replay"]
     with tempfile.TemporaryFile() as given:
         given.writelines(stream)
         given.seek(0)
         ran = subprocess.run(words, stdin=given, stdout=subprocess.DEVNULL, stderr=subprocess.PIPE, check=True)
-    return int(re.search(rb"Collected : (\d+)", ran.stderr)[1])
+    [collected] = re.findall(rb"Collected : (\d+)", ran.stderr)
+    return int(collected)
 
 
-def main():
+def main() -> None:
     if len(sys.argv) < 2:
         sys.exit(__doc__)
     program, count = sys.argv[1], int(sys.argv[2]) if len(sys.argv) > 2 else 30

@@ -18,6 +18,7 @@ import sys
 import tempfile
 import time
 import urllib.parse
+from typing import Any, Dict, List, Tuple
 
 HERE = os.path.dirname(os.path.abspath(__file__))
 sys.path.insert(0, os.path.join(HERE, "..", "clients", "python"))
@@ -38,18 +39,18 @@ SECONDS = 60
 SCRAPES = 5
 
 
-def get(port, path):
+def get(port: int, path: str) -> bytes:
     page = http.client.HTTPConnection("127.0.0.1", port, timeout=10)
     page.request("GET", path)
     return page.getresponse().read()
 
 
-def free_port():
+def free_port() -> int:
     with socket.create_server(("127.0.0.1", 0)) as server:
-        return server.getsockname()[1]
+        return int(server.getsockname()[1])
 
 
-def query(port, text):
+def query(port: int, text: str) -> List[Tuple[Dict[str, str], float]]:
     """The value of each series that Prometheus has for a query."""
     try:
         answer = json.loads(get(port, "/api/v1/query?query=" + urllib.parse.quote(text)))
@@ -59,7 +60,7 @@ def query(port, text):
     return [(found["metric"], float(found["value"][1])) for found in answer.get("data", {}).get("result", ())]
 
 
-def fill(port):
+def fill(port: int) -> Dict[str, int]:
     """The number of records of each table."""
     with tabd.Client(port) as client:
         for number, name in enumerate(NAMES):
@@ -72,14 +73,14 @@ def fill(port):
     return {name: number for number, name in enumerate(NAMES)}
 
 
-def check_page(promtool, page):
+def check_page(promtool: str, page: bytes) -> bool:
     done = subprocess.run([promtool, "check", "metrics"], input=page, stdout=subprocess.PIPE, stderr=subprocess.STDOUT)
     text = done.stdout.decode().strip()
     print(f"promtool check metrics, {len(page)} bytes: status {done.returncode}, {text or 'silent'}")
     return done.returncode == 0 and not text
 
 
-def check_series(port, wanted):
+def check_series(port: int, wanted: Dict[str, int]) -> bool:
     end = time.monotonic() + SECONDS
     while sum(value for _, value in query(port, "count_over_time(up[1h])")) < SCRAPES and time.monotonic() < end:
         time.sleep(0.2)
@@ -97,13 +98,14 @@ def check_series(port, wanted):
     return is_same
 
 
-def main():
+def main() -> None:
     prometheus, promtool = shutil.which("prometheus"), shutil.which("promtool")
     if len(sys.argv) != 2 or not prometheus or not promtool:
         sys.exit(__doc__)
     server = subprocess.Popen(
         [sys.argv[1], "serve", "--port", "0", "--connections", "16", "--forever", "--metrics", "0"], stdout=subprocess.PIPE, text=True
     )
+    assert server.stdout
     try:
         port, pages = (int(server.stdout.readline().rsplit(":", 1)[1]) for _ in range(2))
         wanted = fill(port)
@@ -123,7 +125,7 @@ def main():
     sys.exit(0 if is_good else 1)
 
 
-def end(process):
+def end(process: "subprocess.Popen[Any]") -> None:
     process.kill()
     process.wait()
 

@@ -14,42 +14,44 @@ import random
 import sys
 import threading
 import time
+from typing import Any, Dict
 
 HERE = os.path.dirname(os.path.abspath(__file__))
 sys.path.insert(0, os.path.join(HERE, ".."))
-from tests.lib.checks import ATOMIC, CREATE, same, script, watch, write  # noqa: E402
+from tests.lib.checks import ATOMIC, CREATE, one_shot, same, script, side_by_side, watch, write  # noqa: E402
 from tests.lib.servers import Metered  # noqa: E402
+from tests.lib.wire import Connection  # noqa: E402
 
 CLIENTS, HOT, COLD = 16, 3, 100_000
 LINE = 30.0
 COUNTED = ("commits_total", "aborts_total", "given_up_total")
 
 
-class SharedReply(dict):
+class SharedReply(Dict[str, int]):
     """What the clients were told, by the metric that counts it."""
 
-    def __init__(self):
+    def __init__(self) -> None:
         super().__init__({name: 0 for name in COUNTED}, connections=0)
         self.lock = threading.Lock()
 
-    def add(self, name):
+    def add(self, name: str) -> None:
         with self.lock:
             self[name] += 1
 
 
-def key(chance):
+def key(chance: random.Random) -> int:
     return chance.randrange(HOT) if chance.random() < 0.3 else chance.randrange(HOT, COLD)
 
 
-def one_shot(client, told, chance):
+def write_some(client: Connection, told: SharedReply, chance: random.Random) -> None:
     parts = [write(key(chance), b"v" * chance.randrange(200)) for _ in range(chance.randrange(1, 5))]
-    reply = client.ask(("transaction", parts, chance.randrange(20)))
+    reply = client.ask(one_shot(*parts, retries=chance.randrange(20)))
     told.add("commits_total" if reply[0] == "atomic" else "aborts_total")
     if reply == ("aborted", "nomore"):
         told.add("given_up_total")
 
 
-def transaction(client, told, chance):
+def transaction(client: Connection, told: SharedReply, chance: random.Random) -> bool:
     """Whether the client goes on."""
     client.ask("begin")
     place = key(chance)
@@ -68,7 +70,7 @@ def transaction(client, told, chance):
     return True
 
 
-def come_and_go(server, told, seed, end):
+def come_and_go(server: Metered, told: SharedReply, seed: int, end: float) -> None:
     chance = random.Random(seed)
     while time.monotonic() < end:
         client = server.connect()
@@ -76,7 +78,7 @@ def come_and_go(server, told, seed, end):
         goes_on = True
         for _ in range(chance.randrange(1, 100)):
             if chance.random() < 0.5:
-                one_shot(client, told, chance)
+                write_some(client, told, chance)
             else:
                 goes_on = transaction(client, told, chance)
             if not goes_on or time.monotonic() > end:
@@ -85,7 +87,7 @@ def come_and_go(server, told, seed, end):
             client.close()
 
 
-def follow(server, end, pause):
+def follow(server: Metered, end: float, pause: float) -> None:
     """Takes events, and subscribes anew behind an overflow."""
     client = server.connect(small=pause > 0)
     client.ask(watch())
@@ -101,14 +103,15 @@ def follow(server, end, pause):
     client.break_off()
 
 
-def lines(server, told, begun, end):
+def lines(server: Metered, told: SharedReply, begun: float, end: float) -> None:
     while (now := time.monotonic()) < end:
         threads, files, kilobytes = server.held()
-        print(f"{now - begun:6.0f} s: {kilobytes} kB, {threads} threads, {files} descriptors, {told['connections']} connections, {told['commits_total']} commits", flush=True)
+        held = f"{kilobytes} kB, {threads} threads, {files} descriptors"
+        print(f"{now - begun:6.0f} s: {held}, {told['connections']} connections, {told['commits_total']} commits", flush=True)
         time.sleep(min(LINE, max(end - now, 0.1)))
 
 
-def soak(program, seconds):
+def soak(program: str, seconds: float) -> None:
     with Metered(program, 32, "--idle", "60") as server:
         # The server is killed where it hangs; not before the end.
         server.limit.cancel()
@@ -117,30 +120,18 @@ def soak(program, seconds):
         first.close()
         told, begun = SharedReply(), time.monotonic()
         end = begun + seconds
-        jobs = [(come_and_go, (server, told, seed, end)) for seed in range(CLIENTS)]
+        jobs: Any = [(come_and_go, (server, told, seed, end)) for seed in range(CLIENTS)]
         jobs += [(follow, (server, end, 0)), (follow, (server, end, 0)), (follow, (server, end, 0.05)), (lines, (server, told, begun, end))]
-        faults = []
-
-        def run(job, given):
-            try:
-                job(*given)
-            except Exception as error:
-                faults.append(error)
-
-        threads = [threading.Thread(target=run, args=job) for job in jobs]
-        for thread in threads:
-            thread.start()
-        for thread in threads:
-            thread.join()
-        if faults:
-            raise faults[0]
+        side_by_side(jobs)
         server.has(sessions=0, open_transactions=0, **{name: told[name] for name in COUNTED})
         page = server.page()
-        print(f"{told['connections']} connections, {page['commits_total']} commits, {page['restarts_total']} restarts, {page['waits_total']} waits, {page['overflows_total']} overflows, {page['items_sent_total']} items: as told")
-        same("what it said", set(server.stopped().splitlines()) - {f"tabd: session {number} was idle" for number in range(told["connections"] + 10)}, set())
+        counts = ", ".join(f"{page[name + '_total']} {name}" for name in ("commits", "restarts", "waits", "overflows", "items_sent"))
+        print(f"{told['connections']} connections, {counts}: as told")
+        idle = {f"tabd: session {number} was idle" for number in range(told["connections"] + 10)}
+        same("what it said", set(server.stopped().splitlines()) - idle, set())
 
 
-def main():
+def main() -> None:
     if len(sys.argv) not in (2, 3):
         sys.exit(__doc__)
     try:

@@ -11,19 +11,19 @@ is the difference of two runs, as of scans.py. No other work on the machine move
 
 import sys
 
-from replay import frame
 from scans import instructions
+from tests.lib.wire import Term, frame  # noqa: E402
 
 TUPLES, RECORDS = 1_000, 10_000
 TEXT = b"x" * 20
 LIST = [("t", n, TEXT) for n in range(TUPLES)]
 
 
-def key(n):
+def key(n: int) -> Term:
     return ("k", TEXT, n)
 
 
-def main():
+def main() -> None:
     if len(sys.argv) < 2:
         sys.exit(__doc__)
     program, count = sys.argv[1], int(sys.argv[2]) if len(sys.argv) > 2 else 100

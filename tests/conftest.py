@@ -133,9 +133,6 @@ def clients(serve: Callable[..., Server], passed: Callable[[], bool], request: p
     mark = request.node.get_closest_marker("served")
     count, *words = mark.args
     server = serve("--connections", str(count), *words)
-    connections = [server.connect(small=mark.kwargs.get("small", False) and number == 0) for number in range(count)]
-    yield connections
+    yield [server.connect(small=mark.kwargs.get("small", False) and number == 0) for number in range(count)]
     if passed():
-        for connection in connections:
-            connection.close()
         server.ends()

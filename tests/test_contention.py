@@ -18,7 +18,8 @@ from typing import Any, Callable, List, Tuple
 
 import pytest
 
-from tests.lib.checks import ATOMIC, CREATE, OK, one_shot, opened, read_waits, script, side_by_side, waits, write
+from tests.lib.checks import ATOMIC, CREATE, OK, add, begun, change, committed, gets, one_shot, opened, read_waits, script, side_by_side, waits
+from tests.lib.checks import write
 from tests.lib.refusing import built
 from tests.lib.servers import Server
 from tests.lib.wire import Connection, Term, frame
@@ -54,10 +55,6 @@ def between(what: str, least: float, seconds: float, most: float) -> None:
     assert least <= seconds <= most, f"{what}: {seconds:.3f} s, wanted {least} to {most}"
 
 
-def middle(what: str, seconds: List[float], most: float) -> None:
-    between(f"{what}, in the middle", 0, statistics.median(seconds), most)
-
-
 def resting(holder: Connection, *others: Connection) -> None:
     """The holder has locked record 1; each of the others has done something and backs off for it."""
     opened(holder, *others)
@@ -70,22 +67,20 @@ def resting(holder: Connection, *others: Connection) -> None:
 
 def table_of(connection: Connection) -> None:
     """A table with record 1."""
-    script((connection, CREATE, ATOMIC), (connection, one_shot(write(1, 0)), ("atomic", [OK])))
+    script((connection, CREATE, ATOMIC))
+    change(connection, write(1, 0))
 
 
-def received_after(connection: Connection, reply: Any) -> Any:
-    """The pending reply, and when it came."""
-    found, seconds = timed(connection.receive)
-    assert found == ("reply", reply)
-    return seconds
+def received_after(connection: Connection, reply: Any) -> float:
+    """So many seconds until the pending reply came."""
+    return float(timed(gets, connection, reply)[1])
 
 
 @served(2)
 def test_a_restart_comes(clients: List[Connection]) -> None:
     """One thread drives both: the restart comes while the other's transaction is open, and the younger goes on after it."""
     older, younger = clients
-    script((older, CREATE, ATOMIC))
-    opened(older, younger)
+    begun(older, younger)
     script((older, write(5, "a"), OK))
     reply, seconds = timed(younger.ask, ("read", "t", 5))
     assert reply == "restart"
@@ -97,13 +92,12 @@ def test_a_restart_comes(clients: List[Connection]) -> None:
 def test_two_upgrades(clients: List[Connection]) -> None:
     """Both read, both write: the older waits until the younger was restarted."""
     older, younger = clients
-    script((older, CREATE, ATOMIC))
-    opened(older, younger)
+    begun(older, younger)
     script((older, READ, []), (younger, READ, []))
     older.send(write(1, "a"))
     waits(older)
-    assert younger.ask(write(1, "b")) == "restart", "the younger"
-    assert older.receive() == ("reply", OK), "the older"
+    script((younger, write(1, "b"), "restart"))
+    gets(older, OK)
     script((older, "commit", ("atomic", 1)), (younger, READ, [("t", 1, "a")]))
 
 
@@ -111,13 +105,12 @@ def test_two_upgrades(clients: List[Connection]) -> None:
 def test_no_overtaking(clients: List[Connection]) -> None:
     """A request after an older queued one backs off, though it does not conflict with the granted lock."""
     first, second, third = clients
-    script((first, CREATE, ATOMIC))
-    opened(first, second, third)
+    begun(first, second, third)
     script((second, READ, []))
     first.send(("write_lock_table", "t"))
     waits(first)
     script((third, ("read", "t", 2), "restart"), (second, "commit", ("atomic", 1)))
-    assert first.receive() == ("reply", OK), "the first"
+    gets(first, OK)
     script((first, ("abort", "no"), ("aborted", "no")), (third, ("read", "t", 2), []))
 
 
@@ -143,8 +136,8 @@ def test_an_end_wakes(clients: List[Connection], end: Any) -> None:
         holder.ask(end)
         took.append(received_after(other, "restart"))
         script((other, WREAD, [("t", 1, 0)]))
-        assert other.ask("commit")[0] == "atomic", "commit"
-    middle("the back-off", took, AT_ONCE)
+        committed(other)
+    between("the back-off, in the middle", 0, statistics.median(took), AT_ONCE)
 
 
 @served(2)
@@ -160,8 +153,8 @@ def test_a_commit_grants(clients: List[Connection]) -> None:
         time.sleep(0.02)
         holder.ask("commit")
         took.append(received_after(older, [("t", 1, 0)]))
-        assert older.ask("commit")[0] == "atomic", "commit"
-    middle("the wait", took, AT_ONCE)
+        committed(older)
+    between("the wait, in the middle", 0, statistics.median(took), AT_ONCE)
 
 
 @served(3)
@@ -174,11 +167,11 @@ def test_the_oldest_first(clients: List[Connection]) -> None:
         resting(holder, older, younger)
         holder.ask("commit")
         received_after(older, "restart")
-        assert older.ask(WREAD) == [("t", 1, 0)], "the older"
+        script((older, WREAD, [("t", 1, 0)]))
         early += bool(select.select([younger.socket], [], [], 0)[0])
         older.ask("commit")
         received_after(younger, "restart")
-        assert younger.ask(WREAD) == [("t", 1, 0)], "the younger"
+        script((younger, WREAD, [("t", 1, 0)]))
         younger.ask("commit")
     assert early <= ROUNDS / 2, f"the younger went on first {early} times of {ROUNDS}"
 
@@ -194,10 +187,9 @@ def test_an_idle_one_is_passed(clients: List[Connection]) -> None:
         holder.ask("commit")
         received_after(older, "restart")
         took.append(received_after(younger, "restart"))
-        assert younger.ask(WREAD) == [("t", 1, 0)], "the younger"
-        script((older, ("abort", "no"), ("aborted", "no")))
-        assert younger.ask("commit")[0] == "atomic", "commit"
-    middle("the back-off", took, 0.05)
+        script((younger, WREAD, [("t", 1, 0)]), (older, ("abort", "no"), ("aborted", "no")))
+        committed(younger)
+    between("the back-off, in the middle", 0, statistics.median(took), 0.05)
 
 
 @served(3)
@@ -219,8 +211,7 @@ def test_opposite_orders(clients: List[Connection]) -> None:
 
     def write_all(connection: Connection, order: Any) -> None:
         for number in range(100):
-            told = connection.ask(one_shot(*(write(key, number) for key in order)))
-            assert told == ("atomic", [OK] * len(keys)), "one-shot"
+            change(connection, *(write(key, number) for key in order))
 
     script((clients[0], CREATE, ATOMIC))
     side_by_side([(write_all, (clients[0], keys)), (write_all, (clients[1], keys[::-1]))])
@@ -230,7 +221,8 @@ def test_opposite_orders(clients: List[Connection]) -> None:
 def test_a_one_shot_is_patient(clients: List[Connection]) -> None:
     """Its retries are its patience, a tenth of a second each."""
     holder, other = clients
-    script((holder, CREATE, ATOMIC), (holder, "begin", ("tid", 1)), (holder, WREAD, []))
+    begun(holder)
+    script((holder, WREAD, []))
     told, seconds = timed(other.ask, one_shot(write(2, 1), write(1, 2), retries=1))
     assert told == ("aborted", "nomore"), "no more"
     between("two attempts", 0.1, seconds, 0.2 + LATE)
@@ -247,22 +239,16 @@ def test_long_answers(clients: List[Connection]) -> None:
     asker, other = clients
     script((asker, CREATE, ATOMIC))
     for first in range(0, KEYS, 1_000):
-        script((asker, one_shot(*(write(key, 0) for key in range(first, first + 1_000))), ("atomic", [OK] * 1_000)))
-
-    def ask_all() -> None:
-        asker.send(one_shot(*[("all_keys", "t")] * ASKED))
-        asker.payload()
-
-    def read_on() -> None:
-        time.sleep(0.02)
-        while whole.is_alive():
-            waited.append(timed(other.ask, one_shot(READ))[1])
+        change(asker, *(write(key, 0) for key in range(first, first + 1_000)))
 
     waited: List[float] = []
     took: List[float] = []
-    whole = threading.Thread(target=lambda: took.append(timed(ask_all)[1]))
+    asker.send(one_shot(*[("all_keys", "t")] * ASKED))
+    whole = threading.Thread(target=lambda: took.append(timed(asker.payload)[1]))
     whole.start()
-    read_on()
+    time.sleep(0.02)
+    while whole.is_alive():
+        waited.append(timed(other.ask, one_shot(READ))[1])
     whole.join()
     assert took, "it was not answered"
     between("another's read", 0, max(waited), took[0] / 4)
@@ -273,24 +259,16 @@ def test_sixteen_raise(clients: List[Connection]) -> None:
     """Sixteen raise one record, each after a read for a write; how often they are restarted."""
     each, restarts = 25, []
 
-    def attempt(connection: Connection) -> None:
-        connection.ask("begin")
-        while True:
-            found = connection.ask(WREAD)
-            if found != "restart" and connection.ask(write(1, found[0][2] + 1)) == OK:
-                break
-            restarts.append(connection)
-        assert connection.ask("commit")[0] == "atomic", "commit"
-
     def raise_all(connection: Connection) -> None:
         for _ in range(each):
-            attempt(connection)
+            restarts.append(add(connection, (1, 1)))
+            committed(connection)
 
     table_of(clients[0])
     side_by_side([(raise_all, (one,)) for one in clients])
     count = each * len(clients)
-    assert clients[0].ask(one_shot(READ)) == ("atomic", [[("t", 1, count)]]), "sum"
-    assert len(restarts) <= 2 * count, f"{len(restarts)} restarts of {count} transactions"
+    script((clients[0], one_shot(READ), ("atomic", [[("t", 1, count)]])))
+    assert sum(restarts) <= 2 * count, f"{sum(restarts)} restarts of {count} transactions"
 
 
 @served(16)
@@ -300,20 +278,14 @@ def test_mixed_load(clients: List[Connection]) -> None:
     end, raised, longest = time.monotonic() + SECONDS, [], [0.0]
 
     def raise_one(connection: Connection, chance: random.Random) -> None:
-        connection.ask("begin")
-        while True:
-            found = connection.ask(("wread", ("t", 0)))
-            if found != "restart" and connection.ask(write(0, found[0][2] + 1)) == OK:
-                break
+        add(connection, (0, 1))
         if chance.random() < 0.1:
-            assert connection.ask(("abort", "no")) == ("aborted", "no"), "abort"
+            script((connection, ("abort", "no"), ("aborted", "no")))
         else:
-            assert connection.ask("commit")[0] == "atomic", "commit"
-            raised.append(1)
+            raised.append(committed(connection))
 
     def write_both(connection: Connection, keys: Any, value: Any) -> None:
-        told = connection.ask(one_shot(*(write(key, value) for key in keys), retries=1000))
-        assert told == ("atomic", [OK, OK]), "one-shot"
+        script((connection, one_shot(*(write(key, value) for key in keys), retries=1000), ("atomic", [OK, OK])))
 
     def load(connection: Connection, seed: int) -> None:
         chance, keys = random.Random(seed), (1, 2) if seed % 2 else (2, 1)
@@ -325,7 +297,8 @@ def test_mixed_load(clients: List[Connection]) -> None:
             longest[0] = max(longest[0], seconds)
 
     first = clients[0]
-    script((first, CREATE, ATOMIC), (first, one_shot(write(0, 0), write(1, 0), write(2, 0)), ("atomic", [OK] * 3)))
+    script((first, CREATE, ATOMIC))
+    change(first, write(0, 0), write(1, 0), write(2, 0))
     side_by_side([(load, given) for given in zip(clients, range(len(clients)))])
     told = first.ask(one_shot(("read", "t", 0), ("read", "t", 1), ("read", "t", 2)))[1]
     assert told[0][0][2] == len(raised) > 0, "sum"

@@ -1,6 +1,6 @@
 """`tabd serve --forever`, which serves as many concurrent connections as its option says and never ends.
 
-Each case has a server of its own: one at a port, and if the two kinds of socket may differ one at a socket file too.
+Each case has servers of its own: one at a port, and one at a socket file.
 """
 
 import random
@@ -11,19 +11,13 @@ from typing import Any, Callable, Iterator, Tuple
 
 import pytest
 
-from tests.lib.checks import ATOMIC, CREATE, HERE_OK, LIMIT, MARK, OK, at_last, event, read_waits, script, waits, watch, write
+from tests.lib.checks import ATOMIC, CREATE, HERE_OK, LIMIT, OK, at_last, begun, change, event, fill_outbox, follow, gets, one_shot
+from tests.lib.checks import opened, overflow, read_waits, script, waits, watch, write
 from tests.lib.servers import Server, descriptors, forever
 from tests.lib.wire import frame
 
-# Those that are run at a socket file too: what waits, breaks off, is idle, or leaves a descriptor.
-at_both = pytest.mark.parametrize("place", ["at a port", "at a file"])
 seats = pytest.mark.seats
-pytestmark = pytest.mark.serial
-
-
-@pytest.fixture
-def place() -> str:
-    return "at a port"
+pytestmark = [pytest.mark.serial, pytest.mark.parametrize("place", ["at a port", "at a file"])]
 
 
 @pytest.fixture
@@ -39,12 +33,10 @@ def server(request: pytest.FixtureRequest, tabd: str, passed: Callable[[], bool]
 
 
 @seats(8)
-@at_both
 def test_the_ninth_is_refused(server: Server) -> None:
     """A connection too many is refused and closed, and the others go on; after one has left another is served."""
-    connections = [server.connect() for _ in range(8)]
-    for age, connection in enumerate(connections, 1):
-        script((connection, "begin", ("tid", age)))
+    connections = server.clients(8)
+    begun(*connections)
     ninth = server.connect()
     assert (ninth.receive(), ninth.stream.read()) == (LIMIT, b""), "the ninth"
     script(*((connection, "commit", ("atomic", number)) for number, connection in enumerate(connections, 1)))
@@ -55,13 +47,11 @@ def test_the_ninth_is_refused(server: Server) -> None:
 
 
 @seats(2)
-@at_both
 def test_a_pause(server: Server) -> None:
     """The server waits for the only client, which has sent many requests, without using a processor, and keeps its transaction."""
     connection = server.connect()
-    script((connection, CREATE, ATOMIC), (connection, "begin", ("tid", 1)))
-    for number in range(100):
-        assert connection.ask(write(1, number)) == OK, "write"
+    begun(connection)
+    script(*((connection, write(1, number), OK) for number in range(100)))
     before = server.used()
     time.sleep(1)
     used = server.used() - before
@@ -70,11 +60,11 @@ def test_a_pause(server: Server) -> None:
 
 
 @seats(2)
-@at_both
 def test_tables_outlive_connections(server: Server) -> None:
     """All have left, one during a transaction, and the next client finds what was committed."""
-    first, second = server.connect(), server.connect()
-    script((first, CREATE, ATOMIC), (first, ("transaction", [write(1, "a")], 0), ("atomic", [OK])))
+    first, second = server.clients(2)
+    script((first, CREATE, ATOMIC))
+    change(first, write(1, "a"))
     script((second, "begin", ("tid", 2)), (second, write(1, "b"), OK))
     first.close()
     second.break_off()
@@ -84,11 +74,10 @@ def test_tables_outlive_connections(server: Server) -> None:
 
 
 @seats(8)
-@at_both
 def test_a_thousand_connections(server: Server, sanitizer: Any) -> None:
     """A thousand connections, one after the other, leave no thread, no descriptor and no memory."""
-    for connection in (held := [server.connect() for _ in range(7)]):
-        assert connection.ask("begin")[0] == "tid", "begin"
+    held = server.clients(7)
+    opened(*held)
     script((held[0], "commit", ("atomic", 1)), (held[0], CREATE, ATOMIC))
     before = server.settled(server.held()[:2])
     for number in range(1000):
@@ -104,10 +93,9 @@ def test_a_thousand_connections(server: Server, sanitizer: Any) -> None:
 
 # A descriptor that is free again may be too few for the next, so there may be a line for each connection that ends.
 @seats(64, files=20, said="(tabd: no connection was accepted\n){1,12}")
-@at_both
 def test_out_of_descriptors(server: Server) -> None:
     """If no connection can be accepted it prints a line, once and not at each attempt, and goes on as soon as one can."""
-    connections = [server.connect() for _ in range(12)]
+    connections = server.clients(12)
     time.sleep(2)
     for connection in connections:
         connection.break_off()
@@ -116,15 +104,14 @@ def test_out_of_descriptors(server: Server) -> None:
 
 
 @seats(3, "--idle", "1", said="tabd: session 2 was idle\n")
-@at_both
 @pytest.mark.tries(3)
 def test_idle(server: Server) -> None:
     """An idle transaction ends, with its connection, and its locks are released. A session that waits for its lock, and a session without
     a transaction, is not idle, though nothing comes from either."""
-    older, younger, mirror = server.connect(), server.connect(), server.connect()
-    script((older, CREATE, ATOMIC), (mirror, watch(), HERE_OK), (older, "begin", ("tid", 1)))
-    script((younger, "begin", ("tid", 2)), (younger, write(1, "b"), OK))
-    assert mirror.event() == MARK, "begin marker"
+    older, younger, mirror = server.clients(3)
+    begun(older, younger)
+    follow(mirror)
+    script((younger, write(1, "b"), OK))
     older.send(("read", "t", 1))
     assert younger.stream.read() == b"", "its end"
     assert older.receive() == ("reply", []), "the one that waits"
@@ -139,11 +126,10 @@ def test_idle(server: Server) -> None:
 
 
 @seats(3, "--idle", "60")
-@at_both
 def test_a_server_that_is_stopped(server: Server) -> None:
     """A server that is stopped and goes on keeps its sessions and their transactions, with a time limit on their reads too: of a session from
     which a request is expected, and of one that waits for a lock."""
-    older, younger, quiet = server.connect(), server.connect(), server.connect()
+    older, younger, quiet = server.clients(3)
     read_waits(older, younger)
     for sent in (signal.SIGSTOP, signal.SIGCONT):
         server.process.send_signal(sent)
@@ -153,14 +139,12 @@ def test_a_server_that_is_stopped(server: Server) -> None:
 
 
 @seats(2, "--idle", "1")
-@at_both
 @pytest.mark.tries(3)
 def test_a_reader_that_takes_nothing(server: Server) -> None:
     """A client that reads nothing for so long is disconnected, so that another can be served."""
     reader, writer = server.connect(small=True), server.connect()
     script((reader, CREATE, ATOMIC), (reader, watch(), HERE_OK))
-    for number in range(400):
-        script((writer, ("transaction", [write(number % 5, b"v" * 4000)], 0), ("atomic", [OK])))
+    fill_outbox(writer, 400)
     other, found = server.seated()
     assert found[0] == "tid", "another is served"
     # It prints the line once another can be served.
@@ -168,7 +152,6 @@ def test_a_reader_that_takes_nothing(server: Server) -> None:
 
 
 @seats(2, "--log", "--outbox", "16")
-@at_both
 def test_a_log(server: Server) -> None:
     """Each start, end and overflow of a session, and each refusal of a connection, has a line."""
     reader = server.connect(small=True)
@@ -178,12 +161,9 @@ def test_a_log(server: Server) -> None:
     third = server.connect()
     assert (third.receive(), server.log()) == (LIMIT, "tabd: no seat for a connection\n"), "the third"
     script((writer, CREATE, ATOMIC), (reader, watch(), HERE_OK))
-    for number in range(1, 201):
-        script((writer, ("transaction", [write(number % 5, b"v" * 4000)], 0), ("atomic", [OK])))
-    reader.widen()
-    while (told := reader.event())[0] != "mnesia_overflow":
-        pass
-    assert server.log() == f"tabd: session 1 lost its events from commit {told[1]} on\n", "an overflow"
+    fill_outbox(writer, 200)
+    lost = overflow(reader)
+    assert server.log() == f"tabd: session 1 lost its events from commit {lost} on\n", "an overflow"
     writer.break_off()
     assert server.log() == "tabd: session 2 has ended\n", "an end"
     reader.close()
@@ -191,12 +171,11 @@ def test_a_log(server: Server) -> None:
 
 
 @seats(2, "--slow", "1")
-@at_both
 def test_slow_transactions(server: Server) -> None:
     """A transaction that was open for a second has a line after its end, whether it is committed or its client goes; a shorter one has none."""
-    first, second = server.connect(), server.connect()
-    script((first, CREATE, ATOMIC), (first, "begin", ("tid", 1)), (second, "begin", ("tid", 2)), (second, "commit", ("atomic", 1)))
-    script((second, ("transaction", [write(1, "a")], 0), ("atomic", [OK])), (second, "begin", ("tid", 4)))
+    first, second = server.clients(2)
+    begun(first, second)
+    script((second, "commit", ("atomic", 1)), (second, one_shot(write(1, "a")), ("atomic", [OK])), (second, "begin", ("tid", 4)))
     time.sleep(1.2)
     script((first, "commit", ("atomic", 3)))
     assert re.fullmatch(r"tabd: session 1 had a transaction open for \d+ s\n", server.log()), "a commit"
@@ -205,10 +184,9 @@ def test_slow_transactions(server: Server) -> None:
 
 
 @seats(3)
-@at_both
 def test_broken_off_during_a_wait(server: Server) -> None:
     """A client that breaks off while it waits leaves at once, also if it has sent a further request, and its locks are released."""
-    older, younger, third = server.connect(), server.connect(), server.connect()
+    older, younger, third = server.clients(3)
     read_waits(older, younger, (write(2, "a"), OK))
     older.send(("read", "t", 3))
     waits(older)
@@ -219,16 +197,15 @@ def test_broken_off_during_a_wait(server: Server) -> None:
 
 
 @seats(2)
-@at_both
 def test_half_closed_during_a_wait(server: Server) -> None:
     """A client that half-closes while it waits, after a further request, has not broken off: it gets both replies."""
-    older, younger = server.connect(), server.connect()
+    older, younger = server.clients(2)
     read_waits(older, younger)
     older.send(("read", "t", 3))
     older.half_close()
     waits(older)
     script((younger, "commit", ("atomic", 1)))
-    assert [older.receive()[1] for _ in range(2)] == [[("t", 1, "b")], []], "the replies"
+    gets(older, [("t", 1, "b")], [])
     assert older.stream.read() == b"", "its end"
 
 
@@ -238,13 +215,12 @@ ABORTED = ("aborted", "no")
 
 def held(server: Server) -> Tuple[Any, ...]:
     """An older session with two levels, whose read waits for a younger's write, and the younger."""
-    older, younger = server.connect(), server.connect()
+    older, younger = server.clients(2)
     read_waits(older, younger, ("begin", ("tid", 1)))
     return older, younger
 
 
 @seats(2, "--abort-waits")
-@at_both
 def test_an_abort_ends_a_wait(server: Server) -> None:
     """Only the abort is answered, and it ends one level. The dropped request is not queued any more; the next operation waits as before."""
     older, younger = held(server)
@@ -260,16 +236,15 @@ def test_an_abort_ends_a_wait(server: Server) -> None:
 
 
 @seats(2, "--abort-waits")
-@at_both
 def test_an_abort_in_the_same_piece(server: Server) -> None:
     """In one piece, the abort after the operation ends its wait, and the requests after the abort are answered."""
     older, younger = held(server)
     script((older, ABORT, ABORTED))
     older.send(("read", "t", 2), ("read", "t", 1), ABORT, "begin")
-    assert [older.receive()[1] for _ in range(3)] == [[], ABORTED, ("tid", 3)], "the replies"
+    gets(older, [], ABORTED, ("tid", 3))
     # An abort after an operation that does not wait is answered after it.
     older.send(("read", "t", 2), ABORT)
-    assert [older.receive()[1] for _ in range(2)] == [[], ABORTED], "the replies"
+    gets(older, [], ABORTED)
     script((younger, "commit", ("atomic", 1)))
 
 
@@ -280,7 +255,7 @@ def test_others_are_answered_after_a_wait(server: Server) -> None:
     older.send(("read", "t", 2), ABORT)
     waits(older)
     script((younger, "commit", ("atomic", 1)))
-    assert [older.receive()[1] for _ in range(3)] == [[("t", 1, "b")], [], ABORTED], "the replies"
+    gets(older, [("t", 1, "b")], [], ABORTED)
 
 
 @seats(2)
@@ -290,29 +265,29 @@ def test_an_abort_is_answered_after_a_wait(server: Server) -> None:
     older.send(ABORT)
     waits(older)
     script((younger, "commit", ("atomic", 1)))
-    assert [older.receive()[1] for _ in range(2)] == [[("t", 1, "b")], ABORTED], "the replies"
+    gets(older, [("t", 1, "b")], ABORTED)
 
 
 @seats(3, "--abort-waits")
 def test_an_abort_ends_a_one_shot(server: Server) -> None:
     """A one-shot that waits, for a younger transaction's lock after an older one's, is given up."""
-    first, one_shot, younger = server.connect(), server.connect(), server.connect()
-    script((first, CREATE, ATOMIC), (first, "begin", ("tid", 1)), (first, write(1, "a"), OK))
-    one_shot.send(("transaction", [write(1, "b"), write(2, "b")], 1000))
-    waits(one_shot)
+    first, asker, younger = server.clients(3)
+    begun(first)
+    script((first, write(1, "a"), OK))
+    asker.send(one_shot(write(1, "b"), write(2, "b"), retries=1000))
+    waits(asker)
     script((younger, "begin", ("tid", 3)), (younger, write(2, "c"), OK), (first, "commit", ("atomic", 1)))
-    waits(one_shot)
-    one_shot.send(ABORT)
-    assert [one_shot.receive()[1] for _ in range(2)] == [("aborted", "nowait"), ("error", "no_transaction")], "the replies"
+    waits(asker)
+    asker.send(ABORT)
+    gets(asker, ("aborted", "nowait"), ("error", "no_transaction"))
     script((younger, "commit", ("atomic", 2)), (first, "begin", ("tid", 4)), (first, ("read", "t", 1), [("t", 1, "a")]))
 
 
 @seats(2, "--abort-waits")
-@at_both
 def test_an_abort_at_a_commit(server: Server) -> None:
     """An abort comes about when the lock is free: the operation is answered, and the abort after it, or only the abort."""
     chance = random.Random(1)
-    older, younger = server.connect(), server.connect()
+    older, younger = server.clients(2)
     script((older, CREATE, ATOMIC))
     given_up = set()
     for turn in range(200):
@@ -323,9 +298,9 @@ def test_an_abort_at_a_commit(server: Server) -> None:
         for connection, request in chance.sample([(younger, "commit"), (older, ("abort", turn))], 2):
             connection.send(request)
             time.sleep(chance.random() * 0.0005)
-        found = older.receive()[1]
+        found = older.reply()
         given_up.add(found == ("aborted", turn))
         if found != ("aborted", turn):
-            assert (found, older.receive()[1]) == ([("t", 1, turn)], ("aborted", turn)), "the replies"
-        assert younger.receive()[1] == ("atomic", turn + 1), "the commit"
+            assert (found, older.reply()) == ([("t", 1, turn)], ("aborted", turn)), "the replies"
+        gets(younger, ("atomic", turn + 1))
     assert given_up == {True, False}, "only one of the two was seen"

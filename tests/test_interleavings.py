@@ -6,24 +6,19 @@ A library in front of the program's calls of futexes and sockets (delaying.c) de
 
 import os
 import random
-import select
-import threading
 import time
-from typing import Any, Callable, Dict, Iterator, List, Tuple
+from typing import Any, Callable, Dict, List
 
 import pytest
 
-from tests.lib.checks import ATOMIC, CREATE, HERE_OK, OK, opened, same, watch, write
+from tests.lib.checks import ATOMIC, CREATE, HERE_OK, OK, committed, gets, opened, script, watch, write
 from tests.lib.refusing import built
 from tests.lib.rounds import Rounds
 from tests.lib.servers import Server
-from tests.lib.wire import PATIENCE, Connection, Term
+from tests.lib.wire import Connection
 
 pytestmark = pytest.mark.usefixtures("plain")
 
-# A session that waits sleeps for a second if it is not woken. Then no reply comes for so many seconds, and a thread of the test, on the same
-# processors, was never late by so many.
-SILENCE, LATE = 0.8, 0.2
 # So many waits at once, each for a lock of its own, in so many turns; their ends are watched by so many sessions. A session that waits asks for
 # its lock once more after twenty milliseconds, and the locks are free at about that time.
 WAITS, TURNS, WATCHERS, FREE = 8, 20, 2, (0.015, 0.025)
@@ -59,91 +54,38 @@ def is_loaded(server: Server, library: str) -> bool:
         return library in file.read()
 
 
-class Pulse(threading.Thread):
-    """How late the machine lets a thread go on, on these processors, since the last time that one asked."""
-
-    def __init__(self, where: List[int]) -> None:
-        super().__init__(daemon=True)
-        self.where, self.latest, self.over = where, 0.0, False
-
-    def run(self) -> None:
-        os.sched_setaffinity(0, self.where)
-        while not self.over:
-            began = time.monotonic()
-            time.sleep(0.005)
-            self.latest = max(self.latest, time.monotonic() - began)
-
-    def taken(self) -> float:
-        found, self.latest = self.latest, 0.0
-        return found
-
-
-@pytest.fixture
-def pulse(seed: int) -> Iterator[Pulse]:
-    pulse = Pulse(processors(seed))
-    pulse.start()
-    yield pulse
-    pulse.over = True
-    pulse.join()
-
-
-def replies(connections: List[Connection]) -> Tuple[List[Term], float]:
-    """One to each, and the longest time in which none came."""
-    found: Dict[Connection, Term] = {}
-    silence, last = 0.0, time.monotonic()
-    while len(found) < len(connections):
-        ready, _, _ = select.select([it.socket for it in connections if it not in found], [], [], PATIENCE)
-        assert ready, "no reply"
-        silence, last = max(silence, time.monotonic() - last), time.monotonic()
-        found.update((it, it.reply()) for it in connections if it.socket in ready)
-    return [found[it] for it in connections], silence
-
-
-def commit(connections: List[Connection]) -> None:
-    for connection in connections:
-        connection.send("commit")
-
-
-def turn(older: List[Connection], younger: List[Connection], value: int, chance: random.Random) -> float:
-    """Each of the older waits for one of the younger, which all commit at once; the longest silence before the last has its lock."""
+def turn(older: List[Connection], younger: List[Connection], value: int, chance: random.Random) -> None:
+    """Each of the older waits for one of the younger, which all commit at once."""
     opened(*older, *younger)
     for key, connection in enumerate(younger):
-        same("a write", connection.ask(write(key, value)), OK)
+        script((connection, write(key, value), OK))
     for key, connection in enumerate(older):
         connection.send(("wread", ("t", key)))
     time.sleep(chance.uniform(*FREE))
-    commit(chance.sample(younger, len(younger)))
-    found, silence = replies([*younger, *older])
-    assert all(reply[0] == "atomic" for reply in found[: len(younger)]), found
-    same("the reads", found[len(younger) :], [[("t", key, value)] for key in range(len(older))])
-    commit(older)
-    assert all(reply[0] == "atomic" for reply in replies(older)[0])
-    return silence
+    for connection in chance.sample(younger, len(younger)):
+        connection.send("commit")
+    for connection in younger:
+        assert connection.reply()[0] == "atomic", "a commit"
+    for key, connection in enumerate(older):
+        gets(connection, [("t", key, value)])
+        committed(connection)
 
 
-@pytest.mark.serial
-def test_who_waits_is_woken(serve: Callable[..., Server], library: str, delayed: Dict[str, Any], pulse: Pulse, seed: int) -> None:
+def test_who_waits_is_woken(serve: Callable[..., Server], library: str, delayed: Dict[str, Any], seed: int) -> None:
+    """A session that is not woken sleeps for ever, however busy the machine is, so its reply never comes."""
+    delayed["env"]["ENDLESS"] = "1"
     server = serve("--connections", str(2 * WAITS + WATCHERS), **delayed)
     if not is_loaded(server, library):
         pytest.skip("the program takes no LD_PRELOAD")
-    connections = [server.connect() for _ in range(2 * WAITS)]
-    same("a table", connections[0].ask(CREATE), ATOMIC)
-    watchers = [server.connect() for _ in range(WATCHERS)]
-    for watcher in watchers:
-        same("a subscription", watcher.ask(watch()), HERE_OK)
-    chance, late, undecided = random.Random(seed), [], 0
+    connections, watchers, chance = server.clients(2 * WAITS), server.clients(WATCHERS), random.Random(seed)
+    script((connections[0], CREATE, ATOMIC), *((watcher, watch(), HERE_OK) for watcher in watchers))
     for value in range(TURNS):
-        pulse.taken()
-        silence = turn(connections[:WAITS], connections[WAITS:], value, chance)
-        if silence >= SILENCE and pulse.taken() < LATE:
-            late.append((value, round(silence, 3)))
-        elif silence >= SILENCE:
-            undecided += 1
+        try:
+            turn(connections[:WAITS], connections[WAITS:], value, chance)
+        except TimeoutError:
+            pytest.fail(f"seed {seed}, turn {value}: a session that waits was not woken")
         for watcher in watchers:
             assert all(watcher.event() for _ in range(WAITS))
-    assert not late, f"seed {seed}: turns in which a session slept until it looked by itself, and the seconds of silence"
-    if undecided == TURNS:
-        pytest.skip("the machine lets no thread go on in time")
 
 
 def test_a_round(serve: Callable[..., Server], tmp_path: Any, delayed: Dict[str, Any], seed: int) -> None:

@@ -12,7 +12,8 @@ from typing import Any, Iterator, List, Tuple
 
 import pytest
 
-from tests.lib.streams import DAMAGED, DEVICE
+from tests.lib.checks import ATOMIC, CREATE, HERE_OK, MARK, OK, event, watch, write
+from tests.lib.streams import DAMAGED, DEVICE, Step, of_steps
 from tests.lib.wire import Term, frame, frames
 
 LONGEST = 1_048_576
@@ -77,68 +78,53 @@ def longest(size: int) -> Any:
     return frames(*start, (1, ("write", ("t", 1, bytes(size - bare)))))
 
 
-def commits(count: int) -> Tuple[Any, ...]:
-    """As many transactions of one write, and what is answered."""
-    asked: List[Term] = [(1, "join"), (1, ("create_table", "t", []))]
-    told: List[Term] = [(1, "ok"), (1, ("atomic", "ok"))]
+def commits(count: int) -> Iterator[Step]:
+    """As many transactions of one write."""
+    yield from [(1, "join", OK), (1, CREATE, ATOMIC)]
     for number in range(1, count + 1):
-        asked += [(1, "begin"), (1, ("write", ("t", number % 7, number))), (1, "commit")]
-        told += [(1, ("tid", number)), (1, "ok"), (1, ("atomic", number))]
-    return frames(*asked), frames(*told)
+        yield from [(1, "begin", ("tid", number)), (1, write(number % 7, number), OK), (1, "commit", ("atomic", number))]
 
 
-def begins(count: int) -> Tuple[Any, ...]:
+def begins(count: int) -> Iterator[Step]:
     """As many transactions that are aborted at once: each has the next age."""
-    asked, told = [(1, "join")], [(1, "ok")]  # type: List[Term], List[Term]
+    yield 1, "join", OK
     for age in range(1, count + 1):
-        asked += [(1, "begin"), (1, ("abort", "why"))]
-        told += [(1, ("tid", age)), (1, ("aborted", "why"))]
-    return frames(*asked), frames(*told)
+        yield from [(1, "begin", ("tid", age)), (1, ("abort", "why"), ("aborted", "why"))]
 
 
-def used_up() -> Tuple[Any, ...]:
+def used_up() -> List[Step]:
     """The limits of levels and of operations, both reached: the reply to a begin is the first, and after a level has ended the other."""
     read, levels, operations = ("read", "t", 1), 16, 1000
-    limit = {what: (1, ("error", ("system_limit", what))) for what in ("nesting", "operations")}
+    nesting, too_many = (("error", ("system_limit", what)) for what in ("nesting", "operations"))
     children = levels - 1
-    steps: List[Term] = [((1, "join"), (1, "ok")), ((1, ("create_table", "t", [])), (1, ("atomic", "ok")))]
-    steps += [((1, "begin"), (1, ("tid", 1)))] * levels + [((1, read), (1, []))] * (operations - children)
-    steps += [((1, "begin"), limit["nesting"]), ((1, read), limit["operations"]), ((1, "commit"), (1, ("atomic", "ok")))]
-    steps += [((1, "begin"), limit["operations"])] + [((1, "commit"), (1, ("atomic", "ok")))] * (children - 1)
-    steps += [((1, read), limit["operations"]), ((1, "commit"), (1, ("atomic", 1)))]
-    return frames(*(asked for asked, _ in steps)), frames(*(told for _, told in steps))
-
-
-def watched(count: int) -> Tuple[Any, ...]:
-    """64 sessions watch as many commits; all but the last take each batch, and the last gets its overflow."""
-    sessions, last = range(1, 65), 64
-    asked: List[Term] = [(session, "join") for session in sessions] + [(1, ("create_table", "t", []))]
-    told: List[Term] = [(session, "ok") for session in sessions] + [(1, ("atomic", "ok"))]
-    begun, none = ("mnesia_table_begin", "t", "simple"), "empty"
-    batches = [
-        ("batch", number, [("mnesia_table_event", ("write", ("t", number % 7, number), ("tid", number)))])
-        for number in range(1, count + 1)
+    return [
+        (1, "join", OK),
+        (1, CREATE, ATOMIC),
+        *[(1, "begin", ("tid", 1))] * levels,
+        *[(1, read, [])] * (operations - children),
+        (1, "begin", nesting),
+        (1, read, too_many),
+        (1, "commit", ATOMIC),
+        (1, "begin", too_many),
+        *[(1, "commit", ATOMIC)] * (children - 1),
+        (1, read, too_many),
+        (1, "commit", ("atomic", 1)),
     ]
 
-    def take(session: int, item: Any) -> None:
-        asked.append((session, "take"))
-        told.append((session, item))
 
-    for session in sessions:
-        asked.append((session, ("subscribe", ("table", "t", "simple"))))
-        told.append((session, ("ok", "nonode@nohost")))
-    for session in sessions[:-1]:
-        take(session, begun)
+def watched(count: int) -> Iterator[Step]:
+    """64 sessions watch as many commits; all but the last take each batch, and the last gets its overflow."""
+    sessions, last = range(1, 65), 64
+    batches = [("batch", number, [event(number % 7, number, number)]) for number in range(1, count + 1)]
+    yield from ((session, "join", OK) for session in sessions)
+    yield 1, CREATE, ATOMIC
+    yield from ((session, watch(), HERE_OK) for session in sessions)
+    yield from ((session, "take", MARK) for session in sessions[:-1])
     for number, batch in enumerate(batches, 1):
-        asked += [(1, "begin"), (1, ("write", ("t", number % 7, number))), (1, "commit")]
-        told += [(1, ("tid", number)), (1, "ok"), (1, ("atomic", number))]
-        for session in sessions[:-1]:
-            take(session, batch)
-    for item in [begun, *batches[:63], ("mnesia_overflow", 64), none]:
-        take(last, item)
-    for session in sessions[:-1]:
-        take(session, none)
-    return frames(*asked), frames(*told)
+        yield from [(1, "begin", ("tid", number)), (1, write(number % 7, number), OK), (1, "commit", ("atomic", number))]
+        yield from ((session, "take", batch) for session in sessions[:-1])
+    yield from ((last, "take", item) for item in [MARK, *batches[:63], ("mnesia_overflow", 64), "empty"])
+    yield from ((session, "take", "empty") for session in sessions[:-1])
 
 
 def payloads(*each: Any) -> Any:
@@ -199,11 +185,11 @@ STREAMS = [
     pytest.param(lambda: (longest(LONGEST), BEGUN + frames((1, "ok"))), 0, b"", id="the longest payload"),
     pytest.param(lambda: (longest(LONGEST + 1), BEGUN), 3, DAMAGED, id="a payload that is too long"),
     pytest.param(odd_payloads, 0, b"", id="the longest and the deepest"),
-    pytest.param(lambda: commits(10_000), 0, b"", id="10,000 commits"),
+    pytest.param(lambda: of_steps(commits(10_000)), 0, b"", id="10,000 commits"),
     # Past ages of two bytes.
-    pytest.param(lambda: begins(65_540), 0, b"", id="65,540 begins"),
-    pytest.param(used_up, 0, b"", id="both limits"),
-    pytest.param(lambda: watched(70), 0, b"", id="64 subscribers"),
+    pytest.param(lambda: of_steps(begins(65_540)), 0, b"", id="65,540 begins"),
+    pytest.param(lambda: of_steps(used_up()), 0, b"", id="both limits"),
+    pytest.param(lambda: of_steps(watched(70)), 0, b"", id="64 subscribers"),
 ]
 
 

@@ -10,7 +10,8 @@ from typing import Any, Callable, Iterator
 
 import pytest
 
-from tests.lib.checks import ATOMIC, CREATE, HERE_OK, LIMIT, OK, read_waits, script, side_by_side, watch, write
+from tests.lib.checks import ATOMIC, CREATE, HERE_OK, LIMIT, OK, UNWATCH, begun, change, fill_outbox, gets, one_shot, opened, overflow, read_waits
+from tests.lib.checks import script, side_by_side, watch, write
 from tests.lib.servers import Client, Metered, Server
 
 # A client of the page has so many seconds for its request; another is answered in less meanwhile.
@@ -30,31 +31,31 @@ def server(tabd: str, request: pytest.FixtureRequest, passed: Callable[[], bool]
 
 def test_each_is_counted(server: Metered) -> None:
     """One request after another, and the counters after each."""
-    first, second, mirror = server.connect(), server.connect(), server.connect()
+    first, second, mirror = server.clients(3)
     script((first, CREATE, ATOMIC), (mirror, watch(), HERE_OK))
     server.has(sessions=3, sessions_started_total=3, tables=1, records=0, commits_total=0, journal_entries=2, items_sent_total=1)
     # A commit with a child, one that does nothing, and a one-shot.
     script((first, "begin", ("tid", 1)), (first, "begin", ("tid", 1)), (first, write(1, "a"), OK), (first, "commit", ATOMIC))
     server.has(open_transactions=1, commits_total=0, records=0)
     script((first, "commit", ("atomic", 1)), (first, "begin", ("tid", 2)), (first, "commit", ("atomic", 2)))
-    script((second, ("transaction", [write(2, "b")], 0), ("atomic", [OK])))
+    change(second, write(2, "b"))
     server.has(open_transactions=0, commits_total=3, aborts_total=0, records=2, items_sent_total=3)
     # A child's abort is no transaction's; then three ends: an abort, an operation that fails, and a one-shot's.
     script((first, "begin", ("tid", 4)), (first, "begin", ("tid", 4)), (first, ("abort", "no"), ("aborted", "no")))
     server.has(open_transactions=1, aborts_total=0)
     script((first, ("abort", "no"), ("aborted", "no")), (first, "begin", ("tid", 5)))
     script((first, ("read", "u", 1), ("aborted", ("no_exists", "u"))), (first, "commit", ("error", "no_transaction")))
-    script((second, ("transaction", [("read", "u", 1)], 0), ("aborted", ("no_exists", "u"))))
+    script((second, one_shot(("read", "u", 1)), ("aborted", ("no_exists", "u"))))
     server.has(open_transactions=0, commits_total=3, aborts_total=3)
 
 
 def test_waits_and_restarts(server: Metered) -> None:
-    older, younger = server.connect(), server.connect()
+    older, younger = server.clients(2)
     read_waits(older, younger)
     server.has(waits_total=1, restarts_total=0, open_transactions=2, commits_total=0)
     script((younger, "commit", ("atomic", 1)))
-    assert older.receive() == ("reply", [("t", 1, "b")]), "the one that waits"
-    script((younger, ("transaction", [write(1, "c")], 0), ("aborted", "nomore")))
+    gets(older, [("t", 1, "b")])
+    script((younger, one_shot(write(1, "c")), ("aborted", "nomore")))
     server.has(waits_total=1, restarts_total=1, given_up_total=1, open_transactions=1, commits_total=1, aborts_total=1)
     script((younger, "begin", ("tid", 4)), (younger, "begin", ("tid", 4)), (younger, write(1, "c"), "restart"), (younger, "commit", ("atomic", 2)))
     server.has(restarts_total=2, open_transactions=1, commits_total=2)
@@ -66,12 +67,11 @@ def test_waits_and_restarts(server: Metered) -> None:
 
 def test_bytes(server: Metered) -> None:
     """As the clients have them: of requests, and of replies and items, short and long."""
-    first, mirror = server.connect(), server.connect()
+    first, mirror = server.clients(2)
     script((first, CREATE, ATOMIC), (mirror, watch(), HERE_OK))
-    for key in range(4):
-        script((first, ("transaction", [write(key, b"v" * 50_000)], 0), ("atomic", [OK])))
-    script((first, ("transaction", [write(key, b"v" * 50_000) for key in (4, 5)], 0), ("atomic", [OK, OK])))
-    script((mirror, ("unsubscribe", ("table", "t", "simple")), HERE_OK), (mirror, watch("dump"), HERE_OK))
+    for keys in [0], [1], [2], [3], [4, 5]:
+        change(first, *(write(key, b"v" * 50_000) for key in keys))
+    script((mirror, UNWATCH, HERE_OK), (mirror, watch("dump"), HERE_OK))
     script((first, "begin", ("tid", 6)), (first, ("all_keys", "t"), [0, 1, 2, 3, 4, 5]))
     assert len(first.ask(("match_object", ("t", "_", "_")))) == 6, "the records"
     # Two markers, six events of five commits, and a marker with the records.
@@ -84,17 +84,14 @@ def test_bytes(server: Metered) -> None:
 def test_overflows(server: Metered) -> None:
     reader, writer = server.connect(small=True), server.connect()
     script((writer, CREATE, ATOMIC), (reader, watch(), HERE_OK))
-    for number in range(1, 201):
-        script((writer, ("transaction", [write(number % 5, b"v" * 4000)], 0), ("atomic", [OK])))
-    reader.widen()
-    while reader.event()[0] != "mnesia_overflow":
-        pass
+    fill_outbox(writer, 200)
+    overflow(reader)
     server.has(overflows_total=1, commits_total=200)
 
 
 def test_many_clients(server: Metered) -> None:
     """Four concurrent clients, at three records: each counter is the sum over their replies."""
-    clients = [server.connect() for _ in range(4)]
+    clients = server.clients(4)
     script((clients[0], CREATE, ATOMIC))
     sums = [dict(commits_total=0, aborts_total=0, given_up_total=0) for _ in clients]
 
@@ -103,10 +100,10 @@ def test_many_clients(server: Metered) -> None:
         for _ in range(150):
             if chance.random() < 0.4:
                 parts = [write(chance.randrange(3), 1) for _ in range(chance.randrange(1, 4))]
-                reply = client.ask(("transaction", parts, chance.randrange(3)))
+                reply = client.ask(one_shot(*parts, retries=chance.randrange(3)))
                 told["given_up_total"] += reply == ("aborted", "nomore")
             else:
-                client.ask("begin")
+                opened(client)
                 while client.ask(("wread", ("t", chance.randrange(3)))) == "restart":
                     pass
                 client.ask(write(chance.randrange(3), 2))
@@ -166,7 +163,7 @@ def test_each_table(server: Metered) -> None:
     client = server.connect()
     for name in ("t", 'a "b"', "back\\slash", "line\nfeed", "\u00fc{}"):
         script((client, ("create_table", name, []), ATOMIC))
-    script((client, ("transaction", [write(key, "a") for key in range(3)], 0), ("atomic", [OK] * 3)))
+    change(client, *(write(key, "a") for key in range(3)))
     names = {'a \\"b\\"': 0, "back\\\\slash": 0, "line\\nfeed": 0, "t": 3, "\u00fc{}": 0}
     assert server.samples()["table_records"] == {f'table="{name}"': count for name, count in names.items()}
     server.has(tables=5, records=3)
@@ -176,9 +173,8 @@ def test_each_table(server: Metered) -> None:
 
 def test_watchers_of_each_table(server: Metered) -> None:
     """How many sessions watch each table: those that subscribed and did not unsubscribe, and whose table was not deleted."""
-    clients = [server.connect() for _ in range(3)]
-    for name in ("t", "u"):
-        script((clients[0], ("create_table", name, []), ATOMIC))
+    clients = server.clients(3)
+    script(*((clients[0], ("create_table", name, []), ATOMIC) for name in ("t", "u")))
 
     def watchers() -> Any:
         return server.samples()["table_watchers"]
@@ -186,7 +182,7 @@ def test_watchers_of_each_table(server: Metered) -> None:
     assert watchers() == {'table="t"': 0, 'table="u"': 0}
     script(*((client, watch(), HERE_OK) for client in clients), (clients[1], ("subscribe", ("table", "u", "detailed")), HERE_OK))
     assert watchers() == {'table="t"': 3, 'table="u"': 1}
-    script((clients[2], ("unsubscribe", ("table", "t", "simple")), HERE_OK))
+    script((clients[2], UNWATCH, HERE_OK))
     assert watchers() == {'table="t"': 2, 'table="u"': 1}
     script((clients[0], ("delete_table", "u"), ATOMIC))
     assert watchers() == {'table="t"': 2}
@@ -194,18 +190,18 @@ def test_watchers_of_each_table(server: Metered) -> None:
 
 def test_refused_connections(server: Metered) -> None:
     """How many may be served at once, how many were refused, and the version."""
-    served = [server.connect() for _ in range(4)]
-    script(*((client, "begin", ("tid", age)) for age, client in enumerate(served, 1)))
+    served = server.clients(4)
+    begun(*served)
     for _ in range(3):
         assert server.connect().receive() == LIMIT, "a fifth"
-    server.has(connections_limit=4, connections_refused_total=3, sessions=4, sessions_idle_ended_total=0)
+    server.has(connections_limit=4, connections_refused_total=3, sessions=len(served), sessions_idle_ended_total=0)
     assert server.samples()["build_info"] == {'version="0.1.0"': 1}
 
 
 def test_idle_sessions(tabd: str) -> None:
     """Those that are ended since they were idle."""
     with Metered(tabd, 2, "--idle", "1") as server:
-        idle, other = server.connect(), server.connect()
+        idle, other = server.clients(2)
         script((idle, "begin", ("tid", 1)))
         assert idle.stream.read() == b"", "it is ended"
         other.close()
@@ -219,7 +215,5 @@ def test_ends_by_itself(tabd: str, serve: Callable[..., Server]) -> None:
     words = [tabd, "serve", "--port", "0", "--connections", "1", "--metrics", pages]
     taken = subprocess.run(words, capture_output=True, text=True, timeout=10, check=False)
     assert (taken.returncode, taken.stdout, taken.stderr) == (1, "", TAKEN), "a port that is taken"
-    connection = server.connect()
-    assert connection.ask("begin") == ("tid", 1)
-    connection.close()
+    script((server.connect(), "begin", ("tid", 1)))
     server.ends()

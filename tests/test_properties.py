@@ -15,7 +15,7 @@ from hypothesis import strategies as st
 
 from tests.lib import planted
 from tests.lib.asking import Replay, Step
-from tests.lib.model import OPTIONS, whole
+from tests.lib.model import OPTIONS
 from tests.lib.sessions import Book, mirrored
 from tests.lib.strategies import ANY_STEPS, DAMAGES, KEYS, MEETING_STEPS, STEPS, TABLE_OPTIONS, WATCHERS, WATCHING
 from tests.lib.strategies import damaged, encodings, otherwise, terms
@@ -240,7 +240,7 @@ def check_outboxes(replay: Replay, asked: List[Step], model: Callable[[int], Boo
     for who in range(1, WATCHERS + 1):
         items = [reply for step, reply in zip(asked, found) if step == (who, "take") and reply != "empty"]
         for tab, copy in mirrored(items).items():
-            assert copy == sorted(whole(book.tables[tab]), key=repr), f"a copy of {tab}"
+            assert copy == book.tables[tab], f"a copy of {tab}"
 
 
 @given(asked=WATCHING)

@@ -10,17 +10,16 @@ With `--wrong` the program is each of a few wrong ones, which end by themselves 
 each stream; and one that leaves something after a one-shot of a stream.
 """
 
-import collections
 import itertools
 import time
 from functools import partial
-from typing import Any, Callable, Counter, List
+from typing import Any, Callable, List
 
 import pytest
 
 from tests.lib.checks import ATOMIC, CREATE
 from tests.lib.one_shots import ONE_SHOTS, PROBED
-from tests.lib.refusing import NO_MEMORY, RefusedReplay, built, is_no_memory
+from tests.lib.refusing import NO_MEMORY, RefusedReplay, built, is_no_memory, tried
 from tests.lib.servers import Server
 from tests.lib.streams import streams
 from tests.lib.wire import frame, term_of
@@ -29,8 +28,6 @@ from tests.lib.wire import frame, term_of
 LEFT_OUT = {"limit operations", "child count", "one shot operations", "sessions and tables", "damage cut", "damage too long"}
 # A frame that is read takes so many allocations: the bytes, the list of the frames, and the payload, if it is not empty.
 OF_A_FRAME, OF_AN_EMPTY = 3, 2
-# The first allocation of a vector may be tried twice: after so many runs with no refusal there are no more allocations.
-NONE_LEFT = 2
 # Wrong programs: the first allocation since a piece at whose refusal one ends, and the status.
 WRONG = [
     pytest.param({"ENDS": "1", "WRONG": "1"}, id="it ends at each refusal"),
@@ -225,34 +222,24 @@ def in_stream_end(run: Any, case: Any, left: Any = ()) -> Any:
 
 
 def faults_in_stream(replay: Any, case: Any, left: Any = (), **wrong: Any) -> List[str]:
-    """The faults, for each allocation of the one-shot in turn; prints how often the runs ended in each way."""
-    ends: Counter[str] = collections.Counter()
-    faults: List[str] = []
+    """The faults, for each allocation of the one-shot in turn."""
     case.measure(replay)
-    for nth in range(1, case.count + 1):
-        try:
-            with replay(case.words, nth, case.place + 1, **wrong) as run:
-                ends[in_stream_end(run, case, left)] += 1
-        except AssertionError as differs:
-            faults.append(f"allocation {nth}: {differs}")
-    print(ends)
-    return faults
+
+    def end(nth: int) -> Any:
+        with replay(case.words, nth, case.place + 1, **wrong) as run:
+            return in_stream_end(run, case, left)
+
+    return tried(range(1, case.count + 1), end)[1]
 
 
-def faults_of(replay: Any, does: Any, stream: Any, start: int, **wrong: Any) -> Any:
-    """The faults, for each allocation in turn; prints how often the runs ended in each way."""
-    ends: Counter[str] = collections.Counter()
-    faults: List[str] = []
-    before = count_before(replay, stream)
-    for nth in itertools.count(1):
-        if ends["none"] == NONE_LEFT or not start and nth > before:
-            break
-        try:
-            with replay(stream.words, nth, start, **wrong) as run:
-                ends[does(run, stream)] += 1
-        except AssertionError as differs:
-            faults.append(f"allocation {nth}: {differs}")
-    print(ends)
+def faults_of(replay: Any, does: Any, case: Any, start: int, **wrong: Any) -> List[str]:
+    """The faults, for each allocation in turn; with the start 0 only for those before a frame is read."""
+
+    def end(nth: int) -> Any:
+        with replay(case.words, nth, start, **wrong) as run:
+            return does(run, case)
+
+    ends, faults = tried(itertools.count(1) if start else range(1, count_before(replay, case) + 1), end)
     assert faults or ends.keys() & {"start", "frame", "asked again"}, "nothing was refused"
     return faults
 
@@ -261,44 +248,48 @@ def test_the_start(replay: Any) -> None:
     assert not faults_of(replay, row_end, ROWS[0], 0)
 
 
-@pytest.mark.parametrize("stream", ROWS, ids=[stream.name for stream in ROWS])
+def each(name: str, cases: List[Any]) -> pytest.MarkDecorator:
+    return pytest.mark.parametrize(name, cases, ids=[case.name for case in cases])
+
+
+@each("stream", ROWS)
 def test_stream(replay: Any, stream: Any) -> None:
-    assert not faults_of(replay, row_end, stream, 1)[:5]
+    assert not faults_of(replay, row_end, stream, 1)
 
 
-@pytest.mark.parametrize("case", SHOTS, ids=[case.name for case in SHOTS])
+@each("case", SHOTS)
 def test_one_shot(replay: Any, case: Any) -> None:
-    assert not faults_of(replay, one_shot_end, case, len(case.given))[:5]
+    assert not faults_of(replay, one_shot_end, case, len(case.given))
 
 
-@pytest.mark.parametrize("case", IN_STREAMS, ids=[case.name for case in IN_STREAMS])
+@each("case", IN_STREAMS)
 def test_one_shot_of_a_stream(replay: Any, case: Any) -> None:
-    assert not faults_in_stream(replay, case)[:5]
+    assert not faults_in_stream(replay, case)
 
 
 @pytest.mark.wrong
-@pytest.mark.parametrize("stream", ROWS, ids=[stream.name for stream in ROWS])
+@each("stream", ROWS)
 @pytest.mark.parametrize("wrong", WRONG)
 def test_a_wrong_program_is_found(replay: Any, wrong: Any, stream: Any) -> None:
     assert faults_of(replay, row_end, stream, 1, **wrong)
 
 
 @pytest.mark.wrong
-@pytest.mark.parametrize("case", SHOTS, ids=[case.name for case in SHOTS])
+@each("case", SHOTS)
 @pytest.mark.parametrize("wrong", WRONG)
 def test_a_wrong_program_is_found_by_a_one_shot(replay: Any, wrong: Any, case: Any) -> None:
     assert faults_of(replay, one_shot_end, case, len(case.given), **wrong)
 
 
 @pytest.mark.wrong
-@pytest.mark.parametrize("case", IN_STREAMS, ids=[case.name for case in IN_STREAMS])
+@each("case", IN_STREAMS)
 @pytest.mark.parametrize("wrong", WRONG)
 def test_a_wrong_program_is_found_by_a_one_shot_of_a_stream(replay: Any, wrong: Any, case: Any) -> None:
     assert faults_in_stream(replay, case, **wrong)
 
 
 @pytest.mark.wrong
-@pytest.mark.parametrize("case", BEGUN, ids=[case.name for case in BEGUN])
+@each("case", BEGUN)
 @pytest.mark.parametrize("left", LEAVES)
 def test_what_a_one_shot_leaves_is_found(replay: Any, left: Any, case: Any) -> None:
     assert faults_in_stream(replay, case, left([*case.tables, "t"][0]))

@@ -7,20 +7,18 @@ writes the same key and changes the table's indexes. A request that got `no_memo
 allocations of many commits show which is the first that folds the journal of a server whose options don't set it.
 """
 
-import collections
 import contextlib
 import itertools
 import select
-import subprocess
 import sys
 from dataclasses import dataclass
 from functools import partial
-from typing import Any, Callable, Counter, List, Sequence, Tuple, Union
+from typing import Any, Callable, List, Sequence, Tuple, Union
 
 import pytest
 
 from tests.lib.checks import ATOMIC, HERE_OK, MARK, OK, event, same, script, soon, watch, write
-from tests.lib.refusing import NO_MEMORY, RefusedServer, built
+from tests.lib.refusing import NO_MEMORY, RefusedServer, built, tried
 from tests.lib.wire import Connection, Term
 
 # A connection's number, its request and the reply.
@@ -28,8 +26,6 @@ Step = Tuple[int, Term, Term]
 
 # The frame that is read takes the first allocations: the bytes, the payload, and the list of the frames.
 OF_A_FRAME = 3
-# After so many runs in which nothing was refused there are no more allocations.
-NONE_LEFT = 2
 # No request takes so many: it is counted, and nothing refused.
 COUNTED, COUNTS = 1_000_000, 3
 # The entries of a journal by default.
@@ -121,7 +117,6 @@ class Case:
             first.close()
             second.close()
             probe(other)
-            other.close()
             server.ends()
             return end
 
@@ -174,7 +169,6 @@ class Watched:
                 self.next_event(first, second)
             first.close()
             probe(second)
-            second.close()
             server.ends()
             return end if made >= nth else "none"
 
@@ -217,7 +211,6 @@ class Joins:
             first.close()
             if self.words:
                 server.seated()[0].close()
-            second.close()
             if not self.words:
                 server.ends()
             return end if made >= nth else "none"
@@ -303,19 +296,10 @@ def refused(tabd: str, tmp_path_factory: pytest.TempPathFactory) -> Any:
 
 @pytest.mark.parametrize("case", CASES, ids=[case.name for case in CASES])
 def test_refused(refused: Any, case: Any) -> None:
-    """Refuses each allocation in turn; prints how often the runs ended in each way."""
-    ends: Counter[str] = collections.Counter()
-    faults: List[str] = []
+    """Refuses each allocation in turn."""
     if isinstance(case, Case):
         case.counted(refused)
-    for nth in itertools.count(1):
-        if ends["none"] == NONE_LEFT or len(faults) == 5:
-            break
-        try:
-            ends[case.run(refused, nth)] += 1
-        except (AssertionError, OSError, ValueError, subprocess.TimeoutExpired) as error:
-            faults.append(f"allocation {nth}: {type(error).__name__} {error}")
-    print(ends)
+    ends, faults = tried(itertools.count(1), partial(case.run, refused))
     assert not faults
     assert ends.keys() > {"none"}, "nothing was refused"
 

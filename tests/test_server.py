@@ -15,7 +15,8 @@ from typing import Any, Callable, List
 
 import pytest
 
-from tests.lib.checks import ATOMIC, CREATE, END, HERE_OK, MARK, OK, QUIET, at_last, event, holds, script, side_by_side, waits, watch, write
+from tests.lib.checks import ATOMIC, CREATE, END, HERE_OK, MARK, OK, QUIET, UNWATCH, add, at_last, begun, change, committed, event, follow
+from tests.lib.checks import holds, one_shot, script, side_by_side, waits, watch, write
 from tests.lib.servers import Server
 from tests.lib.wire import Connection, Term, frame
 
@@ -28,25 +29,39 @@ apart: Sent = lambda number, events: events
 together: Sent = lambda number, events: [("batch", number, events)]
 
 
-def too_long(connection: Connection) -> None:
-    connection.socket.sendall((1_048_577).to_bytes(4, "big"))
-    assert connection.receive() == ("reply", ("error", "badterm")), "too long"
+def both_ways(first: str, second: str, *mark: Any, **more: Any) -> pytest.MarkDecorator:
+    """A case that is run with single events, and with `--batches`; their names, and the arguments of the mark `served`."""
+    apart_too = pytest.param(apart, id=first, marks=served(*mark, **more))
+    return pytest.mark.parametrize("sent", [apart_too, pytest.param(together, id=second, marks=served(*mark, "--batches", **more))])
+
+
+# A length over the longest payload's.
+TOO_LONG = (1_048_577).to_bytes(4, "big")
+BADTERM = ("error", "badterm")
+
+
+def ends_after(connection: Connection, *replies: Term) -> None:
+    """The last replies on it, before the server ends its stream."""
+    assert [connection.receive() for _ in replies] == [("reply", reply) for reply in replies]
     assert connection.stream.read() == b"", "its end"
+
+
+def too_long(connection: Connection) -> None:
+    connection.socket.sendall(TOO_LONG)
+    ends_after(connection, BADTERM)
 
 
 def too_long_after_others(connection: Connection) -> None:
     """In one piece, the requests before it are answered, and those after it are not."""
-    connection.socket.sendall(frame(("read", "t", 2)) + (1_048_577).to_bytes(4, "big") + frame("commit"))
-    assert connection.receive() == ("reply", []), "before it"
-    assert connection.receive() == ("reply", ("error", "badterm")), "too long"
-    assert connection.stream.read() == b"", "its end"
+    connection.socket.sendall(frame(("read", "t", 2)) + TOO_LONG + frame("commit"))
+    ends_after(connection, [], BADTERM)
 
 
 def cut(connection: Connection) -> None:
     """Its stream ends inside a frame: there is no reply, and the stream the other way ends too."""
     connection.socket.sendall(frame("commit")[:-1])
     connection.half_close()
-    assert connection.stream.read() == b"", "its end"
+    ends_after(connection)
 
 
 def unread(connection: Connection) -> None:
@@ -61,16 +76,9 @@ def unread(connection: Connection) -> None:
 def test_others_go_on(clients: List[Connection]) -> None:
     """Sessions go on while another's transaction is open, and a watching session gets the events of their commits."""
     first, second, third = clients
-    script(
-        (first, CREATE, ATOMIC),
-        (third, watch(), HERE_OK),
-        (first, "begin", ("tid", 1)),
-        (first, write(1, "a"), OK),
-        (second, "begin", ("tid", 2)),
-        (second, write(2, "b"), OK),
-        (second, "commit", ("atomic", 1)),
-    )
-    assert third.event() == MARK, "begin marker"
+    begun(first, second)
+    follow(third)
+    script((first, write(1, "a"), OK), (second, write(2, "b"), OK), (second, "commit", ("atomic", 1)))
     assert third.event() == event(2, "b", 2), "event"
     script(
         (second, "begin", ("tid", 3)),
@@ -81,7 +89,7 @@ def test_others_go_on(clients: List[Connection]) -> None:
         (second, ("read", "t", 1), [("t", 1, "a")]),
     )
     assert third.event() == event(1, "a", 1), "event"
-    script((third, ("unsubscribe", ("table", "t", "simple")), HERE_OK))
+    script((third, UNWATCH, HERE_OK))
     assert third.event() == END, "end marker"
 
 
@@ -99,13 +107,9 @@ def test_others_go_on(clients: List[Connection]) -> None:
 def test_woken(clients: List[Connection], end: Any, reply: Any, found: Any) -> None:
     """A session that waits gets the record as soon as the other's transaction ends, in each way."""
     older, younger = clients
-    script(
-        (older, CREATE, ATOMIC),
-        (older, ("transaction", [write(1, 1)], 0), ("atomic", [OK])),
-        (older, "begin", ("tid", 2)),
-        (younger, "begin", ("tid", 3)),
-        (younger, write(1, 2), OK),
-    )
+    script((older, CREATE, ATOMIC))
+    change(older, write(1, 1))
+    script((older, "begin", ("tid", 2)), (younger, "begin", ("tid", 3)), (younger, write(1, 2), OK))
     older.send(("read", "t", 1))
     waits(older)
     if end == "leave":
@@ -122,13 +126,8 @@ def test_woken(clients: List[Connection], end: Any, reply: Any, found: Any) -> N
 def test_a_session_leaves_a_queue(clients: List[Connection]) -> None:
     """A queued request is dropped with its session: the request after it is woken."""
     first, second, third = clients
-    script(
-        (first, CREATE, ATOMIC),
-        (first, "begin", ("tid", 1)),
-        (second, "begin", ("tid", 2)),
-        (third, "begin", ("tid", 3)),
-        (third, ("read", "t", 1), []),
-    )
+    begun(first, second, third)
+    script((third, ("read", "t", 1), []))
     second.send(write(1, "b"))
     waits(second)
     first.send(("read", "t", 1))
@@ -151,34 +150,24 @@ def test_raise(clients: List[Connection], count: int) -> None:
     total = each * count
     numbers: List[int] = []
 
-    def attempt(connection: Connection) -> bool:
-        found = connection.ask(("wread", ("t", 1)))
-        return bool(found != "restart" and connection.ask(write(1, found[0][2] + 1)) == OK)
-
     def raise_all(connection: Connection) -> None:
         for turn in range(each):
-            connection.ask("begin")
-            while not attempt(connection):
-                pass
-            word, number = connection.ask("commit")
-            assert word == "atomic", "commit"
-            numbers.append(number)
+            add(connection, (1, 1))
+            numbers.append(committed(connection))
 
     first = clients[0]
-    script((first, CREATE, ATOMIC), (first, ("transaction", [write(1, 0)], 0), ("atomic", [OK])))
+    script((first, CREATE, ATOMIC))
+    change(first, write(1, 0))
     side_by_side([(raise_all, (one,)) for one in clients])
     assert sorted(numbers) == list(range(2, total + 2)), "numbers"
-    assert first.ask(("transaction", [("read", "t", 1)], 0)) == ("atomic", [[("t", 1, total)]]), "value"
+    script((first, one_shot(("read", "t", 1)), ("atomic", [[("t", 1, total)]])))
 
 
 def copy_of(log: Any) -> Any:
     """The table as events leave it that begins with record 2."""
-    copy = {2: 2}
-    for _, (word, record, _) in log:
-        if word == "write":
-            copy[record[1]] = record[2]
-        else:
-            copy.pop(record[1], None)
+    copy = {2: [("t", 2, 2)]}
+    for _, (word, what, _) in log:
+        copy[what[1]] = [what] if word == "write" else []
     return copy
 
 
@@ -190,53 +179,48 @@ def test_two_mirrors(clients: List[Connection]) -> None:
     each = 60
     logs: List[Any] = []
 
-    def commit_all(connection: Connection, seed: int) -> None:
+    def change_all(connection: Connection, seed: int) -> None:
         chance = random.Random(seed)
         for turn in range(each):
             key = chance.randrange(5)
             what = ("delete", ("t", key)) if turn % 5 == 0 else write(key, chance.randrange(1000))
-            assert connection.ask(("transaction", [what], 1000))[0] == "atomic", "commit"
+            assert connection.ask(one_shot(what, retries=1000))[0] == "atomic", "commit"
 
-    def follow(mirror: Any, log: Any) -> None:
+    def read_all(mirror: Any, log: Any) -> None:
         while not log or log[-1][1][:2] != ("write", ("t", "last", 0)):
             log.append(mirror.event())
 
-    script((one, CREATE, ATOMIC), (one, ("transaction", [write(2, 2)], 0), ("atomic", [OK])))
+    script((one, CREATE, ATOMIC))
+    change(one, write(2, 2))
     for mirror in mirrors:
         script((mirror, watch("dump"), HERE_OK))
         assert mirror.event() == ("mnesia_table_begin", "t", "simple", [("t", 2, 2)]), "begin marker"
         logs.append([])
-    following = [threading.Thread(target=follow, args=given, daemon=True) for given in zip(mirrors, logs)]
-    for thread in following:
+    reading = [threading.Thread(target=read_all, args=given, daemon=True) for given in zip(mirrors, logs)]
+    for thread in reading:
         thread.start()
-    side_by_side([(commit_all, (one, 1)), (commit_all, (other, 2))])
-    script((one, ("transaction", [write("last", 0)], 0), ("atomic", [OK])))
-    for thread in following:
+    side_by_side([(change_all, (one, 1)), (change_all, (other, 2))])
+    change(one, write("last", 0))
+    for thread in reading:
         thread.join(10)
     assert [len(log) for log in logs] == [2 * each + 1] * len(logs), "events"
     assert all(log == logs[0] for log in logs), "logs"
     one.ask("begin")
-    table = {key: one.ask(("read", "t", key)) for key in [*range(5), "last"]}
-    assert copy_of(logs[0]) == {key: rows[0][2] for key, rows in table.items() if rows}, "the copies"
+    assert {key: one.ask(("read", "t", key)) for key in copy_of(logs[0])} == copy_of(logs[0]), "the copies"
+    assert set(one.ask(("all_keys", "t"))) <= set(copy_of(logs[0])), "no other records"
 
 
-@pytest.mark.parametrize(
-    "sent",
-    [
-        pytest.param(apart, id="of events", marks=served(3, "--outbox", "16", small=True)),
-        pytest.param(together, id="of batches", marks=served(3, "--outbox", "16", "--batches", small=True)),
-    ],
-)
+@both_ways("of events", "of batches", 3, "--outbox", "16", small=True)
 def test_a_slow_reader(clients: List[Connection], sent: Sent) -> None:
     """A client that reads nothing gets an overflow after the events that were sent; the other gets each commit, and no one waits."""
     idle, writer, reader = clients
     value, count = b"v" * 4000, 200
     # A commit writes the key of its number, which is its age too.
     wanted = [None, *(sent(number, [event(number, value, number)])[0] for number in range(1, count + 1))]
-    script((writer, CREATE, ATOMIC), (idle, watch(), HERE_OK), (reader, watch(), HERE_OK))
-    assert reader.event() == MARK, "begin marker"
+    script((writer, CREATE, ATOMIC), (idle, watch(), HERE_OK))
+    follow(reader)
     for number in range(1, count + 1):
-        script((writer, ("transaction", [write(number, value)], 0), ("atomic", [OK])))
+        change(writer, write(number, value))
         assert reader.event() == wanted[number], "the one that reads"
     idle.widen()
     assert idle.event() == MARK, "begin marker"
@@ -247,8 +231,8 @@ def test_a_slow_reader(clients: List[Connection], sent: Sent) -> None:
     assert told == ("mnesia_overflow", number), "overflow"
     assert number < count, "so many at most"
     # It may watch again.
-    script((idle, watch(), HERE_OK), (writer, ("transaction", [write(count + 1, 0)], 0), ("atomic", [OK])))
-    assert idle.event() == MARK, "begin marker"
+    follow(idle)
+    change(writer, write(count + 1, 0))
     assert [idle.event()] == sent(count + 1, [event(count + 1, 0, count + 1)]), "event"
 
 
@@ -260,10 +244,8 @@ def test_an_outbox_of_one_item(clients: List[Connection]) -> None:
     script((writer, CREATE, ATOMIC))
     for first in range(1, 400, 40):
         numbers = range(first, first + 40)
-        script((watcher, watch(), HERE_OK))
-        assert watcher.event() == MARK, "begin marker"
-        for number in numbers:
-            writer.send(("transaction", [write(number, 0)], 0))
+        follow(watcher)
+        writer.send(*(one_shot(write(number, 0)) for number in numbers))
         for _ in numbers:
             assert writer.receive() == ("reply", ("atomic", [OK])), "a commit"
         for number in numbers:
@@ -273,29 +255,27 @@ def test_an_outbox_of_one_item(clients: List[Connection]) -> None:
                 break
             assert told == event(number, 0, number), "event"
         else:
-            script((watcher, ("unsubscribe", ("table", "t", "simple")), HERE_OK))
+            script((watcher, UNWATCH, HERE_OK))
             assert watcher.event() == END, "end marker"
     assert overflows, "it read too fast"
 
 
-@pytest.mark.parametrize(
-    "size",
-    [
-        pytest.param(3, id="of three items", marks=served(2, "--outbox", "3")),
-        pytest.param(64, id="by default", marks=served(2)),
-    ],
-)
+OF_THREE = pytest.param(3, id="of three items", marks=served(2, "--outbox", "3"))
+
+
+@pytest.mark.parametrize("size", [OF_THREE, pytest.param(64, id="by default", marks=served(2))])
 def test_an_outbox(clients: List[Connection], size: int) -> None:
     """After a commit that is being sent an outbox has room for so many items, and the next one overflows. The commit's end is not sent before
     its beginning is read, as no socket has room for 16 MB."""
     idle, writer = clients
     value, keys, next_one = bytes(1_000_000), range(16), size + 2
-    script((writer, CREATE, ATOMIC), (idle, watch(), HERE_OK), (writer, "begin", ("tid", 1)))
-    assert idle.event() == MARK, "begin marker"
+    begun(writer)
+    follow(idle)
     script(*((writer, write(key, value), OK) for key in keys), (writer, "commit", ("atomic", 1)))
     # Something of the long commit has come, so it is not in the outbox any more.
     assert bool(select.select([idle.socket], [], [], 10)[0]), "it is sent"
-    script(*((writer, ("transaction", [write(0, number)], 0), ("atomic", [OK])) for number in range(2, next_one + 1)))
+    for number in range(2, next_one + 1):
+        change(writer, write(0, number))
     holds("the long one", [idle.event() for _ in keys] == [event(key, value, 1) for key in keys])
     assert [idle.event() for _ in range(size)] == [event(0, number, number) for number in range(2, next_one)], "the commits after it"
     assert idle.event() == ("mnesia_overflow", next_one), "the next"
@@ -307,14 +287,16 @@ def test_during_long_replies(clients: List[Connection]) -> None:
     reader, writer = clients
     each, rows = 20, [("u", key, bytes([key]) * 200_000) for key in range(40)]
     all_rows = ("match_object", ("u", "_", "_"))
-    script((writer, CREATE, ATOMIC), (writer, ("create_table", "u", []), ATOMIC), (reader, watch(), HERE_OK))
-    script(*((writer, ("transaction", [("write", row)], 0), ("atomic", [OK])) for row in rows))
+    script((writer, CREATE, ATOMIC), (writer, ("create_table", "u", []), ATOMIC))
+    follow(reader)
+    for row in rows:
+        change(writer, ("write", row))
     script((reader, "begin", ("tid", len(rows) + 1)))
-    assert reader.event() == MARK, "begin marker"
     for first in range(0, 5 * each, each):
         reader.send(all_rows)
         time.sleep(QUIET)
-        script(*((writer, ("transaction", [write(key, 0)], 0), ("atomic", [OK])) for key in range(first, first + each)))
+        for key in range(first, first + each):
+            change(writer, write(key, 0))
         # On a busy machine events may come before it.
         while (term := reader.receive())[0] != "reply":
             reader.events.append(term)
@@ -322,16 +304,10 @@ def test_during_long_replies(clients: List[Connection]) -> None:
         for key in range(first, first + each):
             assert reader.event() == event(key, 0, len(rows) + 2 + key), "event"
     script((reader, "commit", ("atomic", len(rows) + 5 * each + 1)))
-    holds("a one-shot's", reader.ask(("transaction", [all_rows] * 2, 0)) == ("atomic", [rows] * 2))
+    holds("a one-shot's", reader.ask(one_shot(all_rows, all_rows)) == ("atomic", [rows] * 2))
 
 
-@pytest.mark.parametrize(
-    "sent",
-    [
-        pytest.param(apart, id="of events", marks=served(2)),
-        pytest.param(together, id="in batches", marks=served(2, "--batches")),
-    ],
-)
+@both_ways("of events", "in batches", 2)
 def test_long_items(clients: List[Connection], sent: Sent) -> None:
     """A dump, and commits with long old records, come whole, in order with short commits. All are made before the dump is read, which has
     no end before that, so they follow it at once."""
@@ -339,12 +315,14 @@ def test_long_items(clients: List[Connection], sent: Sent) -> None:
         return sent(number, [("mnesia_table_event", ("write", "t", ("t", key, 0), old, ("tid", number))) for key, old in changes])
     mirror, writer = clients
     rows, detailed = [("t", key, bytes([key]) * 1_000_000) for key in range(16)], ("table", "t", "detailed")
-    script((writer, CREATE, ATOMIC), *((writer, ("transaction", [("write", row)], 0), ("atomic", [OK])) for row in rows))
+    script((writer, CREATE, ATOMIC))
+    for row in rows:
+        change(writer, ("write", row))
     mirror.send(("subscribe", detailed, "dump"))
     assert bool(select.select([mirror.socket], [], [], 10)[0]), "something is sent"
     items: List[Any] = [("mnesia_table_begin", "t", "detailed", rows)]
     for number, keys in enumerate(([16], [17], [0, 1, 2], [18], [3], [4, 19], [20]), len(rows) + 1):
-        script((writer, ("transaction", [write(key, 0) for key in keys], 0), ("atomic", [OK] * len(keys))))
+        change(writer, *(write(key, 0) for key in keys))
         items += changed(number, [(key, rows[key : key + 1]) for key in keys])
     mirror.send(("unsubscribe", detailed))
     items.append(END)
@@ -361,17 +339,11 @@ def test_long_items(clients: List[Connection], sent: Sent) -> None:
 def test_batches(clients: List[Connection]) -> None:
     """A commit's events come in one frame, with its number, if it changed a table that the session watches; markers are the same."""
     one, other, mirror = clients
-    script(
-        (one, CREATE, ATOMIC),
-        (one, ("create_table", "u", []), ATOMIC),
-        (mirror, watch("dump"), HERE_OK),
-        (other, watch(), HERE_OK),
-        (one, ("transaction", [write(1, "a"), ("delete", ("t", 1)), ("write", ("u", 1, 1)), write(2, "b")], 0), ("atomic", [OK] * 4)),
-        (one, ("transaction", [("write", ("u", 2, 2))], 0), ("atomic", [OK])),
-        (one, ("transaction", [write(3, "c")], 0), ("atomic", [OK])),
-        (mirror, ("unsubscribe", ("table", "t", "simple")), HERE_OK),
-        (one, ("delete_table", "t"), ATOMIC),
-    )
+    script((one, CREATE, ATOMIC), (one, ("create_table", "u", []), ATOMIC), (mirror, watch("dump"), HERE_OK), (other, watch(), HERE_OK))
+    change(one, write(1, "a"), ("delete", ("t", 1)), ("write", ("u", 1, 1)), write(2, "b"))
+    change(one, ("write", ("u", 2, 2)))
+    change(one, write(3, "c"))
+    script((mirror, UNWATCH, HERE_OK), (one, ("delete_table", "t"), ATOMIC))
     deletion = ("mnesia_table_event", ("delete", ("t", 1), ("tid", 1)))
     commits = together(1, [event(1, "a", 1), deletion, event(2, "b", 1)]) + together(3, [event(3, "c", 3)])
     ends: List[Any] = [(mirror, ([],), "unsubscribed"), (other, (), "deleted")]
@@ -388,24 +360,15 @@ def test_four_move_amounts(clients: List[Connection]) -> None:
     mirror, *writers = clients
     each, first = 50, {"a": 1000, "b": 1000}
 
-    def attempt(connection: Connection, changes: Any) -> bool:
-        for key, amount in changes:
-            found = connection.ask(("wread", ("t", key)))
-            if found == "restart" or connection.ask(write(key, found[0][2] + amount)) != OK:
-                return False
-        return True
-
     def move_all(connection: Connection, seed: int) -> None:
         chance = random.Random(seed)
         for _ in range(each):
             one, other = chance.sample(list(first), 2)
             amount = chance.randrange(1, 100)
-            connection.ask("begin")
-            while not attempt(connection, [(one, -amount), (other, amount)]):
-                pass
-            assert connection.ask("commit")[0] == "atomic", "commit"
+            add(connection, (one, -amount), (other, amount))
+            committed(connection)
 
-    def follow() -> None:
+    def read_all() -> None:
         accounts = dict(first)
         for wanted in range(2, each * len(writers) + 2):
             word, number, events = mirror.event()
@@ -414,10 +377,10 @@ def test_four_move_amounts(clients: List[Connection]) -> None:
                 accounts[key] = value
             assert sum(accounts.values()) == sum(first.values()), f"the sum after commit {number}"
 
-    setup = [write(key, value) for key, value in first.items()]
-    script((writers[0], CREATE, ATOMIC), (writers[0], ("transaction", setup, 0), ("atomic", [OK, OK])), (mirror, watch(), HERE_OK))
-    assert mirror.event() == MARK, "begin marker"
-    side_by_side([(follow, ()), *((move_all, (one, seed)) for seed, one in enumerate(writers))])
+    script((writers[0], CREATE, ATOMIC))
+    change(writers[0], *(write(key, value) for key, value in first.items()))
+    follow(mirror)
+    side_by_side([(read_all, ()), *((move_all, (one, seed)) for seed, one in enumerate(writers))])
 
 
 @served(1)
@@ -426,40 +389,33 @@ def test_refused(clients: List[Connection]) -> None:
     [connection] = clients
     script((connection, "join", ("error", "badcommand")), (connection, (1, "begin"), ("error", "badcommand")))
     connection.socket.sendall(b"\0\0\0\1\x82")
-    assert connection.receive() == ("reply", ("error", "badterm")), "no term"
+    assert connection.reply() == BADTERM, "no term"
     script((connection, "begin", ("tid", 1)))
-    connection.socket.sendall((1_048_577).to_bytes(4, "big"))
-    assert connection.receive() == ("reply", ("error", "badterm")), "too long"
-    assert connection.stream.read() == b"", "its end"
+    too_long(connection)
+
+
+ENDS = {
+    "a length too long": too_long,
+    "a length too long after others": too_long_after_others,
+    "a frame that is cut": cut,
+    "replies that are not read": unread,
+}
 
 
 @served(2)
-@pytest.mark.parametrize(
-    "end",
-    [
-        pytest.param(too_long, id="a length too long"),
-        pytest.param(too_long_after_others, id="a length too long after others"),
-        pytest.param(cut, id="a frame that is cut"),
-        pytest.param(unread, id="replies that are not read"),
-    ],
-)
+@pytest.mark.parametrize("end", ENDS.values(), ids=ENDS.keys())
 def test_frees(clients: List[Connection], end: Any) -> None:
     """A session whose stream ends so leaves, and its locks are released."""
     first, second = clients
     script((first, CREATE, ATOMIC))
-    first.socket.sendall(b"\0\0\0\0")
-    assert first.receive() == ("reply", ("error", "badterm")), "an empty frame"
-    first.socket.sendall(b"\0\0\0\x0a\x83\x46" + bytes(8))
-    assert first.receive() == ("reply", ("error", "badterm")), "a float"
+    for what, payload in ("an empty frame", b"\0\0\0\0"), ("a float", b"\0\0\0\x0a\x83\x46" + bytes(8)):
+        first.socket.sendall(payload)
+        assert first.reply() == BADTERM, what
     script((first, "begin", ("tid", 1)), (first, write(1, "a"), OK), (first, ("write_lock_table", "t"), OK))
     end(first)
     script((second, "begin", ("tid", 2)))
     assert at_last(second, ("read", "t", 1)) == [], "its lock"
-    script(
-        (second, write(1, "b"), OK),
-        (second, "commit", ("atomic", 1)),
-        (second, ("delete_table", "t"), ATOMIC),
-    )
+    script((second, write(1, "b"), OK), (second, "commit", ("atomic", 1)), (second, ("delete_table", "t"), ATOMIC))
 
 
 @served(2)
@@ -472,10 +428,9 @@ def test_names_of_any_length(clients: List[Connection]) -> None:
         script(
             (client, ("create_table", name, [("attributes", ["key", attribute]), ("index", [attribute])]), ATOMIC),
             (mirror, ("subscribe", ("table", name, "detailed")), HERE_OK),
-            (client, ("transaction", [("write", second), ("write", first)], 0), ("atomic", [OK, OK])),
-            (client, ("transaction", [("index_read", name, value, attribute), ("match_object", (name, "_", value))], 0),
-             ("atomic", [[first, second]] * 2)),
-            (client, ("transaction", [("delete", (name, one)), ("all_keys", name)], 0), ("atomic", [OK, [other]])),
+            (client, one_shot(("write", second), ("write", first)), ("atomic", [OK, OK])),
+            (client, one_shot(("index_read", name, value, attribute), ("match_object", (name, "_", value))), ("atomic", [[first, second]] * 2)),
+            (client, one_shot(("delete", (name, one)), ("all_keys", name)), ("atomic", [OK, [other]])),
         )
         assert mirror.event() == ("mnesia_table_begin", name, "detailed"), "begin marker"
         for wanted in ("write", name, second, []), ("write", name, first, []), ("delete", name, (name, one), [first]):
@@ -487,11 +442,10 @@ def test_an_accept_that_fails(serve: Callable[..., Server]) -> None:
     are served to their end, and the server ends with status 1."""
     server = serve("--connections", "4")
     first = server.connect()
-    script((first, CREATE, ATOMIC), (first, "begin", ("tid", 1)))
+    begun(first)
     # The accept that waits has its handle already.
     server.accepts()
     resource.prlimit(server.process.pid, resource.RLIMIT_NOFILE, (3, 3))
     assert server.connect().stream.read() == b"", "the next"
     script((first, write(1, "a"), OK), (first, "commit", ("atomic", 1)))
-    first.close()
     server.ends(1, "tabd: device\ntabd: Too many open files (os error 24)\n")

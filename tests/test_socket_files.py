@@ -16,7 +16,7 @@ from typing import Any, Callable, Iterator, Tuple
 
 import pytest
 
-from tests.lib.checks import ATOMIC, CREATE, HERE_OK, MARK, OK, event, script, watch, write
+from tests.lib.checks import ATOMIC, CREATE, OK, begun, event, follow, script, write
 from tests.lib.servers import Server
 from tests.lib.wire import Connection
 
@@ -75,13 +75,11 @@ def test_mode(place: Any, umask: int, wanted: Any) -> None:
 def test_requests_and_events(place: Place) -> None:
     """Requests and events, and the end of a server whose connections are closed: the file is gone."""
     with place.server() as server:
-        first, second = Connection(place.path), Connection(place.path)
-        script((first, CREATE, ATOMIC), (second, watch(), HERE_OK), (first, "begin", ("tid", 1)))
+        first, second = server.clients(2)
+        begun(first)
+        follow(second)
         script((first, write(1, "a"), OK), (first, "commit", ("atomic", 1)))
-        assert second.event() == MARK, "begin marker"
         assert second.event() == event(1, "a", 1), "event"
-        first.close()
-        second.close()
         server.ends()
         assert os.listdir(place.folder) == [], "the folder"
 
@@ -121,73 +119,61 @@ def test_in_use(place: Place) -> None:
         is_served(place.path)
 
 
-def make_file(place: Place) -> None:
-    with open(place.path, "w", encoding="ascii") as file:
-        file.write("kept")
-
-
-def make_link(place: Place) -> None:
+def make_link(path: pathlib.Path) -> None:
     """To a socket file at which no one listens."""
     with socket.socket(socket.AF_UNIX) as left:
-        left.bind(place.path + ".left")
-    os.symlink(place.path + ".left", place.path)
+        left.bind(f"{path}.left")
+    path.symlink_to(f"{path}.left")
 
 
-def make_folder(place: Place) -> None:
-    os.mkdir(place.path)
-
-
-def contents(path: str) -> Tuple[object, ...]:
+def contents(path: pathlib.Path) -> Tuple[object, ...]:
     """Of a link, a folder or a file."""
-    if os.path.islink(path):
-        return os.readlink(path), os.path.exists(path)
-    return tuple(os.listdir(path)) if os.path.isdir(path) else (pathlib.Path(path).read_text(encoding="ascii"),)
+    if path.is_symlink():
+        return os.readlink(path), path.exists()
+    return tuple(path.iterdir()) if path.is_dir() else (path.read_bytes(),)
 
 
-@pytest.mark.parametrize("make", [make_file, make_folder, make_link], ids=["a file", "a folder", "a link"])
-def test_no_socket(place: Place, make: Callable[[Place], None]) -> None:
+MAKES = {"a file": lambda path: path.write_text("kept"), "a folder": pathlib.Path.mkdir, "a link": make_link}
+
+
+@pytest.mark.parametrize("make", MAKES.values(), ids=MAKES.keys())
+def test_no_socket(place: Place, make: Callable[[pathlib.Path], None]) -> None:
     """What is no socket file stays as it is."""
-    make(place)
-    before = place.file(), contents(place.path)
+    path = pathlib.Path(place.path)
+    make(path)
+    before = place.file(), contents(path)
     place.refused(IN_USE)
-    assert (place.file(), contents(place.path)) == before
+    assert (place.file(), contents(path)) == before
 
 
 def test_no_accept(place: Place) -> None:
     """A server that ends since it can't accept removes its file too."""
     with place.server(connections=4) as server:
-        first = Connection(place.path)
-        script((first, CREATE, ATOMIC))
+        script((server.connect(), CREATE, ATOMIC))
         # The accept that waits has its handle already.
         server.accepts()
         resource.prlimit(server.process.pid, resource.RLIMIT_NOFILE, (3, 3))
-        assert Connection(place.path).stream.read() == b"", "the next"
-        first.close()
+        assert server.connect().stream.read() == b"", "the next"
         server.ends(1, DEVICE + "tabd: Too many open files (os error 24)\n")
         assert os.listdir(place.folder) == [], "the folder"
 
 
 def test_exchanged(place: Place) -> None:
     """The server does not remove a file that has replaced its own."""
-    with place.server() as server:
-        connections = [Connection(place.path) for _ in range(2)]
-        with socket.socket(socket.AF_UNIX) as other:
-            other.bind(place.path + ".other")
-            os.rename(place.path + ".other", place.path)
-            before = place.file()
-            for connection in connections:
-                connection.close()
-            server.ends()
-            assert place.file() == before, "the file"
+    with place.server() as server, socket.socket(socket.AF_UNIX) as other:
+        server.clients(2)
+        other.bind(place.path + ".other")
+        os.rename(place.path + ".other", place.path)
+        before = place.file()
+        server.ends()
+        assert place.file() == before, "the file"
 
 
 def test_removed(place: Place) -> None:
     """Nor does it mind that the file is gone."""
     with place.server() as server:
-        connections = [Connection(place.path) for _ in range(2)]
+        server.clients(2)
         os.unlink(place.path)
-        for connection in connections:
-            connection.close()
         server.ends()
 
 
@@ -200,7 +186,7 @@ def test_no_page(place: Place) -> None:
 
 def test_a_closed_stream(place: Place) -> None:
     """A standard stream is closed, whose number the socket would get."""
-    for file, told in [(0, DEVICE + "tabd: a standard stream is closed\n"), (1, DEVICE + "tabd: a standard stream is closed\n"), (2, "")]:
+    for file, told in enumerate([DEVICE + "tabd: a standard stream is closed\n"] * 2 + [""]):
         place.refused(told, preexec_fn=lambda file=file: os.close(file))
         assert os.listdir(place.folder) == [], "the folder"
 

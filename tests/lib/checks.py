@@ -11,6 +11,7 @@ from tests.lib.wire import PATIENCE, Connection, Term
 OK, ATOMIC, HERE_OK = "ok", ("atomic", "ok"), ("ok", "nonode@nohost")
 CREATE: Term = ("create_table", "t", [])
 MARK, END = ("mnesia_table_begin", "t", "simple"), ("mnesia_table_end", "t", "unsubscribed")
+UNWATCH: Term = ("unsubscribe", ("table", "t", "simple"))
 LIMIT = ("reply", ("error", ("system_limit", "sessions")))
 # Nothing has come after so many seconds: it waits. What another thread of the server still has to do is done after so many.
 QUIET, SOON = 0.2, 20.0
@@ -72,10 +73,69 @@ def script(*steps: Tuple[Connection, Term, Term]) -> None:
         assert reply == wanted, differs(f"step {line}, {request!r:.200}", reply, wanted)
 
 
+def change(client: Connection, *changes: Term) -> None:
+    """A one-shot of writes and deletions, which is committed."""
+    __tracebackhide__ = True
+    script((client, one_shot(*changes), ("atomic", [OK] * len(changes))))
+
+
+def follow(mirror: Connection) -> None:
+    """Subscribes to the table, and gets its begin marker."""
+    script((mirror, watch(), HERE_OK))
+    assert mirror.event() == MARK, "begin marker"
+
+
+def gets(connection: Connection, *replies: Term) -> None:
+    """The next replies on it, with no event between them."""
+    __tracebackhide__ = True
+    same("the replies", [connection.receive() for _ in replies], [("reply", reply) for reply in replies])
+
+
+def fill_outbox(writer: Connection, count: int) -> None:
+    """So many commits with a long event each."""
+    for number in range(count):
+        change(writer, write(number % 5, b"v" * 4000))
+
+
+def overflow(reader: Connection) -> int:
+    """The commit of its overflow, after the events before it."""
+    reader.widen()
+    while (told := reader.event())[0] != "mnesia_overflow":
+        pass
+    return int(told[1])
+
+
 def opened(*connections: Connection) -> None:
     """Each has a transaction, in the order of their ages."""
     for connection in connections:
         assert connection.ask("begin")[0] == "tid", "begin"
+
+
+def committed(connection: Connection) -> int:
+    """The number of the commit of its transaction."""
+    word, number = connection.ask("commit")
+    assert word == "atomic", "commit"
+    return int(number)
+
+
+def begun(*connections: Connection) -> None:
+    """In a new server: the first makes the table, and each has a transaction, of the ages 1, 2 and so on."""
+    script((connections[0], CREATE, ATOMIC), *((it, "begin", ("tid", age)) for age, it in enumerate(connections, 1)))
+
+
+def added(connection: Connection, key: Term, amount: int) -> bool:
+    """Adds to a record in the transaction that is open. False if it is restarted."""
+    found = connection.ask(("wread", ("t", key)))
+    return bool(found != "restart" and connection.ask(write(key, found[0][2] + amount)) == OK)
+
+
+def add(connection: Connection, *amounts: Tuple[Term, int]) -> int:
+    """Adds to these records in a transaction, which stays open; how often it was restarted."""
+    restarts = 0
+    opened(connection)
+    while not all(added(connection, key, amount) for key, amount in amounts):
+        restarts += 1
+    return restarts
 
 
 def waits(connection: Connection) -> None:
@@ -92,8 +152,8 @@ def waits(connection: Connection) -> None:
 
 def read_waits(older: Connection, younger: Connection, *before: Tuple[Term, Term]) -> None:
     """In a new table the older's read of record 1 waits for the younger's write of "b"; the older has made these requests before."""
-    script((older, CREATE, ATOMIC), (older, "begin", ("tid", 1)), *((older, *step) for step in before))
-    script((younger, "begin", ("tid", 2)), (younger, write(1, "b"), OK))
+    begun(older, younger)
+    script(*((older, *step) for step in before), (younger, write(1, "b"), OK))
     older.send(("read", "t", 1))
     waits(older)
 

@@ -1,5 +1,6 @@
 // Delays the calls by which threads wait for, wake and hear one another: futexes, sockets and yields. SEED says which calls of which threads, how
-// often and for how long. A thread's chances depend on SEED and on how many threads made such a call before it.
+// often and for how long. A thread's chances depend on SEED and on how many threads made such a call before it. With ENDLESS a wait of a second or
+// longer lasts until it is woken: a thread that looks again by itself would hide that its wake-up was lost.
 #define _GNU_SOURCE
 #include <dlfcn.h>
 #include <errno.h>
@@ -20,6 +21,7 @@ static __thread uint64_t chance;
 static unsigned before[KINDS], after[KINDS], longest;
 // A yield does nothing, as it does where no other thread can run.
 static int yields;
+static int endless;
 
 static long (*call)(long, ...);
 static ssize_t (*put)(int, const void *, size_t, int), (*get)(int, void *, size_t, int);
@@ -37,11 +39,11 @@ static uint64_t next(void) {
 }
 
 __attribute__((constructor)) static void start(void) {
-    static const unsigned often[] = {0, 1, 3, 20}, nanoseconds[] = {20000, 200000, 1500000};
+    static const unsigned often[] = {0, 1, 3, 20}, nanoseconds[] = {50000, 500000, 5000000};
     uint64_t x = seed = strtoull(getenv("SEED"), 0, 10);
     for (int kind = 0; kind < KINDS; kind++)
         before[kind] = often[(x = mixed(x + 1)) % 4], after[kind] = often[(x >> 8) % 4];
-    longest = nanoseconds[(x = mixed(x + 1)) % 3], yields = (x >> 8) % 2;
+    longest = nanoseconds[(x = mixed(x + 1)) % 3], yields = (x >> 8) % 2, endless = getenv("ENDLESS") != 0;
     *(void **)&call = dlsym(RTLD_NEXT, "syscall"), *(void **)&yield = dlsym(RTLD_NEXT, "sched_yield");
     *(void **)&put = dlsym(RTLD_NEXT, "send"), *(void **)&get = dlsym(RTLD_NEXT, "recv");
     *(void **)&accepted = dlsym(RTLD_NEXT, "accept4");
@@ -75,6 +77,8 @@ long syscall(long number, ...) {
     if (number != SYS_futex)
         return call(number, a, b, c, d, e, f);
     int kind = (b & FUTEX_CMD_MASK) == FUTEX_WAKE ? WAKE : WAIT;
+    if (endless && (b & FUTEX_CMD_MASK) == FUTEX_WAIT && d && ((const struct timespec *)d)->tv_sec)
+        d = 0;
     DELAYED(kind, long, call(number, a, b, c, d, e, f));
 }
 

@@ -142,7 +142,7 @@ def dumps(count: int, record: Record, records: int, server: Server, client: Conn
 
 def watcher(server: Server) -> Connection:
     """A session that watches the table in detail."""
-    mirror = server.connect()
+    mirror: Connection = server.connect()
     script((mirror, ("subscribe", WATCHED), HERE_OK))
     assert mirror.event() == ("mnesia_table_begin", "t", "detailed"), "begin marker"
     return mirror

@@ -12,10 +12,10 @@ import bisect
 import itertools
 import math
 import operator
+import re
 from typing import Any, Callable, Dict, Iterator, List, Tuple
 
-from tests.lib.model import EMPTY, Alone, conflict, events, lock_of, whole
-from tests.lib.wire import spell
+from tests.lib.model import EMPTY, Alone, Table, conflict, events, lock_of, mirror, whole
 
 # Some values are so long that sockets fill up; none of the bag, whose keys have many records.
 LONG = bytes(4000)
@@ -120,22 +120,22 @@ class Run:
 
     def save(self, path: str) -> None:
         """A record: a line for each transaction and subscriber, as a Python literal, with the names LONG and inf."""
-        rows = [("run", {"closing": self.closing, "outbox": self.outbox})]
+        rows = [("Run", {"closing": self.closing, "outbox": self.outbox})]
         rows += [(type(it).__name__, vars(it)) for it in [*self.attempts, *self.shots]] + [("Log", log.fields()) for log in self.logs]
         with open(path, "w", encoding="utf-8") as file:
             file.writelines(shown(repr(row)) + "\n" for row in rows)
 
     @staticmethod
     def load(path: str) -> Any:
-        made: Dict[str, List[Any]] = {"run": [], "Attempt": [], "OneShot": [], "Log": []}
+        made: Dict[Any, List[Any]] = {Run: [], Attempt: [], OneShot: [], Log: []}
         with open(path, encoding="utf-8") as file:
             for kind, fields in map(value_of, file):
-                kinds = {"run": Run, "Attempt": Attempt, "OneShot": OneShot, "Log": Log}
-                it: Any = object.__new__(kinds[kind])
+                it = object.__new__(globals()[kind])
                 vars(it).update(fields)
-                made[kind].append(it)
-        [run] = made["run"]
-        return Run(made["Attempt"], made["OneShot"], made["Log"], run.closing, run.outbox)
+                made[type(it)].append(it)
+        [run] = made[Run]
+        run.attempts, run.shots, run.logs = made[Attempt], made[OneShot], made[Log]
+        return run
 
 
 def shown(text: str) -> Any:
@@ -143,15 +143,8 @@ def shown(text: str) -> Any:
 
 
 def value_of(line: str) -> Any:
-    """The value of a record's line."""
-    tree = ast.parse(line.strip(), mode="eval")
-    names = {"LONG": ast.Constant(LONG), "inf": ast.Constant(math.inf)}
-
-    class Named(ast.NodeTransformer):
-        def visit_Name(self, node: Any) -> Any:
-            return names[node.id]
-
-    return ast.literal_eval(Named().visit(tree).body)
+    """The value of a record's line. As a literal infinity is a number that is too great."""
+    return ast.literal_eval(re.sub(r"\binf\b", "1e999", line.replace("LONG", repr(LONG))))
 
 
 def flat(parts: Any) -> Iterator[Any]:
@@ -417,7 +410,7 @@ class Follower:
     def __init__(self, judge: Any, watcher: Any) -> None:
         self.judge, self.watcher = judge, watcher
         self.level: Dict[str, str] = {}
-        self.copies: Dict[str, Any] = {}
+        self.copies: Dict[str, Table] = {}
         self.at = [0]
         # Of each item when its first frame came.
         self.items: List[float] = []
@@ -462,25 +455,9 @@ class Follower:
                 self.at = [place]
                 self.items.append(got)
                 for term in owed:
-                    self.mirror(term[1])
+                    mirror(self.copies, term[1])
                 return count
         raise Differs(f"received {frames[0]}, and the next is of {[self.owed(self.next(place))[:1] for place in self.at[:2]]}")
-
-    def mirror(self, event: Any) -> None:
-        """A copy depends only on the event."""
-        what = event[1] if len(event) == 3 else event[2]
-        if (rows := self.copies.get(what[0])) is None:
-            return
-        old = rows.get(spell(what[1]), ())
-        if len(what) == 2:
-            new: Tuple[Any, ...] = ()
-        elif event[0] != "write":
-            new = tuple(record for record in old if record != what)
-        else:
-            new = (what,) if what[0] == "t" else old if what in old else (*old, what)
-        rows[spell(what[1])] = new
-        if not new:
-            del rows[spell(what[1])]
 
     def mark(self, term: Any, got: Any, asked: Any) -> None:
         request, sent, answered = asked or (None, 0, 0)
@@ -504,7 +481,7 @@ class Follower:
             return []
         if dump:
             at = [place for place in at if whole(self.judge.worlds[place][tab]) == term[3]]
-            self.copies[tab] = dict(self.judge.worlds[at[0]][tab].rows) if at else None
+            self.copies.update({tab: self.judge.worlds[at[0]][tab]} if at else {})
         self.level[tab] = level
         return at
 
@@ -513,7 +490,7 @@ class Follower:
         if term != ("mnesia_table_end", tab, "unsubscribed") or self.level.pop(tab, None) != level:
             return []
         copy = self.copies.pop(tab, None)
-        if copy is not None and all(copy != self.judge.worlds[place][tab].rows for place in at):
+        if copy and all(copy != self.judge.worlds[place][tab] for place in at):
             raise Differs(f"its copy of {tab} is not the table")
         return at
 

@@ -101,6 +101,14 @@ def updated(tables: Tables, update: Update) -> Tuple[Tables, List[Term]]:
     return {**tables, what[0]: table._replace(rows=rows)}, list(old)
 
 
+def mirror(copies: Tables, event: Term) -> None:
+    """Takes over an event, at either level, into the copy of its table, if there is one."""
+    what = event[1] if len(event) == 3 else event[2]
+    name = "write" if event[0] == "write" else "delete" if len(what) == 2 else "delete_object"
+    if what[0] in copies:
+        copies.update(updated(copies, (name, what))[0])
+
+
 def events(tables: Tables, updates: List[Update], age: int) -> Tuple[List[Tuple[str, Dict[str, Term]]], Tables]:
     """The events of a commit: of each its table and its terms at both levels; and the tables after it."""
     told, tid = [], ("tid", age)

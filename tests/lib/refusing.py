@@ -4,17 +4,22 @@ A C library in front of the program's `malloc` refuses. A program with an alloca
 sanitizer, does not meet it.
 """
 
+import collections
 import mmap
 import os
 import struct
 import subprocess
 import tempfile
-from typing import Any, Tuple
+from typing import Any, Callable, Counter, Iterable, List, Tuple
 
 from tests.lib.servers import Server
 from tests.lib.wire import term_of
 
 NO_MEMORY = ("error", "no_memory")
+# The first allocation of a vector may be tried twice: after so many runs with no refusal there are no more allocations.
+NONE_LEFT = 2
+# So many faults are shown.
+MOST = 5
 
 
 def built(name: str, folder: Any) -> str:
@@ -22,6 +27,21 @@ def built(name: str, folder: Any) -> str:
     source, library = os.path.join(os.path.dirname(__file__), f"{name}.c"), os.path.join(folder, f"{name}.so")
     subprocess.run(["cc", "-shared", "-fPIC", "-O1", "-o", library, source, "-ldl", "-lpthread"], check=True)
     return library
+
+
+def tried(numbers: Iterable[int], run: Callable[[int], str]) -> Tuple[Counter[str], List[str]]:
+    """How often the runs ended in each way, with these allocations refused in turn, and the first faults."""
+    ends: Counter[str] = collections.Counter()
+    faults: List[str] = []
+    for nth in numbers:
+        if ends["none"] == NONE_LEFT or len(faults) == MOST:
+            break
+        try:
+            ends[run(nth)] += 1
+        except (AssertionError, OSError, ValueError, subprocess.TimeoutExpired) as error:
+            faults.append(f"allocation {nth}: {type(error).__name__} {error}")
+    print(ends)
+    return ends, faults
 
 
 class RefusedReplay:

@@ -9,7 +9,7 @@ import resource
 import subprocess
 import threading
 import time
-from typing import Any, Callable, Dict, Optional, Tuple, TypeVar
+from typing import Any, Callable, Dict, List, Optional, Tuple, TypeVar
 
 from tests.lib.checks import LIMIT, same, soon
 from tests.lib.wire import Connection, Place, Term, frame
@@ -30,6 +30,8 @@ Self = TypeVar("Self", bound="Server")
 class Server:
     """With these arguments, at a port, or at the socket file of a path; options are those of Popen."""
 
+    client = Connection
+
     def __init__(self, program: str, *words: str, path: Optional[str] = None, **options: Any) -> None:
         where = ["--socket", path] if path else ["--port", "0"]
         pipes: Any = {"stdin": subprocess.DEVNULL, "stdout": subprocess.PIPE, "stderr": subprocess.PIPE}
@@ -37,6 +39,7 @@ class Server:
         line = self.line()
         if not line.startswith("listening on "):
             raise OSError(f"the server does not start: {line}{self.process.communicate()[1]}")
+        self.connections: List[Connection] = []
         said = line.removeprefix("listening on ").removesuffix("\n")
         self.place: Place = said if path else int(said.rsplit(":", 1)[1])
         self.limit = threading.Timer(LONGEST, self.process.kill)
@@ -59,12 +62,18 @@ class Server:
         """The next line on standard error."""
         return self.process.stderr.readline()  # type: ignore[union-attr]
 
-    def connect(self, small: bool = False) -> Connection:
-        return Connection(self.place, small)
+    def connect(self, small: bool = False) -> Any:
+        self.connections.append(self.client(self.place, small))
+        return self.connections[-1]
+
+    def clients(self, count: int) -> List[Any]:
+        return [self.connect() for _ in range(count)]
 
     def ends(self, status: int = 0, said: str = "") -> None:
-        """By itself, and says no more than this, on standard error."""
+        """By itself once its connections are closed, and says no more than this, on standard error."""
         __tracebackhide__ = True
+        for connection in self.connections:
+            connection.close()
         out, errors = self.process.communicate(timeout=TO_END)
         assert (self.process.returncode, out, errors) == (status, "", said), "its end"
 
@@ -162,14 +171,13 @@ class Client(Connection):
 class Metered(Server):
     """One that never ends, whose counters can be asked."""
 
+    client = Client
+
     def __init__(self, program: str, seats: int, *words: str) -> None:
         super().__init__(program, "--connections", str(seats), "--forever", "--journal", "16", "--metrics", "0", *words)
         found = re.fullmatch(r"metrics on 127\.0\.0\.1:(\d+)\n", self.line())
         assert found, "the address of its counters"
         self.pages = int(found[1])
-
-    def connect(self, small: bool = False) -> Client:
-        return Client(self.place, small)
 
     def ask(self, method: str = "GET", path: str = "/metrics") -> Tuple[int, Optional[str], str]:
         """The status, the kind and the text."""

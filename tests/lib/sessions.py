@@ -2,10 +2,10 @@
 their outboxes. It shares no code with the server.
 """
 
-from typing import Any, Dict, Iterator, List, Optional
+from typing import Dict, Iterator, List, Optional
 
 from tests.lib.checks import HERE_OK
-from tests.lib.model import KINDS, Alone, Lock, Table, Tables, Update, conflict, events, lock_of, whole
+from tests.lib.model import EMPTY, Alone, Lock, Table, Tables, Update, conflict, events, lock_of, mirror, updated, whole
 from tests.lib.requests import OPERATIONS, Reader, is_list, is_request
 from tests.lib.wire import Term, frame
 
@@ -367,33 +367,24 @@ class Book:
         return HERE_OK
 
 
-def mirrored(items: List[Term]) -> Dict[str, List[Term]]:
+def mirrored(items: List[Term]) -> Tables:
     """The tables that are watched with a dump in the end, built only from the items."""
-    copies: Dict[str, Dict[Term, List[Term]]] = {}
+    copies: Tables = {}
     for item in items:
-        if item[0] == "mnesia_table_begin" and len(item) == 4:
-            copies[item[1]] = {}
-            for record in item[3]:
-                copies[item[1]].setdefault(repr(record[1]), []).append(record)
-        elif item[0] in ("mnesia_table_begin", "mnesia_table_end"):
-            copies.pop(item[1], None)
-        elif item[0] == "mnesia_overflow":
+        if item[0] == "mnesia_overflow":
             copies.clear()
-        for _, event in item[2] if item[0] == "batch" else []:
-            follow(copies, event)
-    return {tab: sorted(sum(copy.values(), []), key=repr) for tab, copy in copies.items()}
+        elif item[0] == "batch":
+            for _, event in item[2]:
+                mirror(copies, event)
+        else:
+            copies.pop(item[1], None)
+            if len(item) == 4:
+                copies.update(dumped(item[1], item[3]))
+    return copies
 
 
-def follow(copies: Dict[str, Any], event: Term) -> None:
-    """Takes an event over, at either level."""
-    what = event[1] if len(event) == 3 else event[2]
-    if (copy := copies.get(what[0])) is None:
-        return
-    old = copy.pop(repr(what[1]), [])
-    if len(what) == 2:
-        new: List[Term] = []
-    elif event[0] != "write":
-        new = [record for record in old if record != what]
-    else:
-        new = [what] if KINDS[what[0]] == "set" else old if what in old else [*old, what]
-    copy[repr(what[1])] = new
+def dumped(tab: str, records: List[Term]) -> Tables:
+    tables = {tab: EMPTY[tab]}
+    for record in records:
+        tables, _ = updated(tables, ("write", record))
+    return tables

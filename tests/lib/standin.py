@@ -172,7 +172,7 @@ class DoublesAnEvent(Wrong):
         return [term, term] if self.hits(link, term) else [term]
 
 
-class HoldsBack(Wrong):
+class SwapsEvents(Wrong):
     """Some frames come after the next one."""
 
     def is_held(self, link: Any, term: Any) -> Any:
@@ -184,10 +184,6 @@ class HoldsBack(Wrong):
             link.held = [term]
             return []
         return [term, *held]
-
-
-class SwapsEvents(HoldsBack):
-    pass
 
 
 class DropsASubscribersEvent(DropsAnEvent):
@@ -202,7 +198,7 @@ class SwapsASubscribersEvents(SwapsEvents):
     spares = True
 
 
-class TellsABatchBeforeItsMark(HoldsBack):
+class TellsABatchBeforeItsMark(SwapsEvents):
     def is_held(self, link: Any, term: Any) -> Any:
         return term[0] == "mnesia_table_begin" and not link.records
 

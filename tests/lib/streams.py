@@ -1,17 +1,30 @@
-"""Streams of `tabd replay` whose replies are known: those of streams.tsv, which another program made, and the scripts of scripts.py.
+"""Streams of `tabd replay` whose replies are known: those of streams.tsv, which another program made, and the scripts of scripts.txt.
 
 Each has one reply frame for each request frame, in their order, so the replies to a beginning of it are known too. test_streams.py compares them
 with those of the model of sessions.py.
 """
 
-import os
-from typing import Iterator, List, Tuple
+import pathlib
+import re
+from typing import Iterable, Iterator, List, Tuple
 
-from tests.lib.scripts import SCRIPTS
-from tests.lib.wire import frame, frames_of
+from tests.lib.checks import ATOMIC, OK
+from tests.lib.notation import terms_of
+from tests.lib.wire import Term, frames, frames_of
 
 DAMAGED, DEVICE = b"tabd: damaged input\n", b"tabd: device\n"
-ROWS = os.path.join(os.path.dirname(os.path.abspath(__file__)), "streams.tsv")
+HERE = pathlib.Path(__file__).parent
+# A session, its request and the reply.
+Step = Tuple[int, Term, Term]
+# As many sessions and tables as there may be, and one more.
+LIMITS: List[Step] = [
+    *[(session, "join", OK) for session in range(1, 65)],
+    (65, "join", ("error", ("system_limit", "sessions"))),
+    *[(1, ("create_table", f"t{number}", []), ATOMIC) for number in range(256)],
+    (1, ("create_table", "more", []), ("error", ("system_limit", "tables"))),
+    (64, "leave", OK),
+    (65, "join", OK),
+]
 
 
 class Stream:
@@ -47,11 +60,23 @@ def bytes_of(text: str) -> bytes:
     return out
 
 
+def scripts() -> Iterator[Tuple[str, int, List[Step]]]:
+    """The name of each, the capacity of the outboxes, and the steps."""
+    for text in re.sub(" *%.*\n", "", (HERE / "scripts.txt").read_text(encoding="utf-8")).strip().split("\n\n"):
+        name, outbox, *terms = terms_of(text)
+        yield name, outbox, list(zip(terms[::3], terms[1::3], terms[2::3]))
+    yield "sessions and tables", 64, LIMITS
+
+
+def of_steps(steps: Iterable[Step]) -> Tuple[bytes, bytes]:
+    """The frames of the requests, and of the replies."""
+    each = list(steps)
+    return frames(*((session, request) for session, request, _ in each)), frames(*((session, reply) for session, _, reply in each))
+
+
 def streams() -> Iterator[Stream]:
-    with open(ROWS, encoding="utf-8") as file:
-        rows: List[List[str]] = [line.rstrip("\n").split("\t") for line in file if line.strip() and not line.startswith("#")]
-    for name, outbox, ended, given, told in rows:
+    lines = (HERE / "streams.tsv").read_text(encoding="utf-8").splitlines()
+    for name, outbox, ended, given, told in (line.split("\t") for line in lines if line and not line.startswith("#")):
         yield Stream(name, int(outbox), bytes_of(given), bytes_of(told), ended)
-    for script, capacity, steps in SCRIPTS:
-        asked = b"".join(frame((session, request)) for session, request, _ in steps)
-        yield Stream(script, capacity, asked, b"".join(frame((session, reply)) for session, _, reply in steps))
+    for script, capacity, steps in scripts():
+        yield Stream(script, capacity, *of_steps(steps))
