@@ -3,3 +3,4 @@ pub mod Draining
 pub mod Crossing
 pub mod Closures
 pub mod Releasing
+pub mod Replying

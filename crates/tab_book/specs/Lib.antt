@@ -3,3 +3,4 @@ pub mod Steps
 pub mod Inboxes
 pub mod Releases
 pub mod Transitions
+pub mod Replies

@@ -6,6 +6,7 @@ ghost use Rattle.tab_model.specs.State.{new as new_state, level_in, IsSound};
 ghost use Rattle.tab_core.specs.Ready.{AreReady};
 ghost use Rattle.tab_post.specs.Ends.{as_outbox, mailbox_of, received};
 ghost use Rattle.tab_book.specs.Running.{IsRunning};
+ghost use Rattle.tab_book.specs.Transitions.{counted_levels};
 ghost use Rattle.tab_book.specs.Steps.{Joins, Refuses, has_free_seat as has_free_seat_of, with_new_session, KeepsPosts};
 
 use crate::step::JoinFault;
@@ -102,6 +103,13 @@ impl<H: Host> Book<H> {
             ≡ count_by (λ s. is_some (level_in s.watching table.now)) self.now.state.sessions }
     {
         self.core.watchers(table)
+    }
+
+    /// How many levels the session has open, up to the greatest 64 bit number.
+    pub fn levels(&self, session: u32) -> u64
+        ensures { result ≡ counted_levels self.now.state session }
+    {
+        self.core.levels(session)
     }
 
     /// True: the entries are run again from the base, which takes as long as the transactions did.

@@ -1,7 +1,8 @@
 //! Several steps of one session under one hold of the lock.
 
-ghost use Rattle.std.specs.Prelude.{◌≡◌, IsTrue, IsOk};
-ghost use Rattle.tab_book.specs.Steps.{is_never_refused};
+ghost use Rattle.std.specs.Prelude.{◌≡◌, IsTrue, IfOk, IsOk};
+ghost use Rattle.tab_book.specs.Replies.{IsAnswer};
+ghost use Rattle.tab_book.specs.Steps.{ask_of, is_never_refused};
 
 use crate::book::Book;
 use crate::shared::{Seat, Shared};
@@ -40,7 +41,8 @@ impl<'a, H: Host> Held<'a, H> {
 
     /// Makes a step of the session; the book stays locked.
     pub fn step(&mut self, seat: &Seat, step: Step) -> Result<Answered, AllocError>
-        ensures { IsTrue (is_never_refused step) → IsOk result }
+        ensures never { IsTrue (is_never_refused step) → IsOk result }
+        ensures answer { IfOk result (λ r. IsAnswer seat.now (ask_of step) r) }
     {
         if self.steps >= STEPS {
             self.give_back();

@@ -2,10 +2,12 @@
 
 ghost use Rattle.std.specs.Prelude.{◌≡◌, ◌≢◌, ◌≤◌, [], IsTrue, IfOk, IfSome, IsOk};
 ghost use Rattle.tab_model.specs.declared.data.Reply.TheVariants as reply;
+ghost use Rattle.tab_model.specs.declared.ask.Ask.TheVariants.{Retry, Do as DoCommand};
 ghost use Rattle.tab_model.specs.Outcome.{is_abort};
 ghost use Rattle.tab_post.specs.Ends.{received};
 ghost use Rattle.tab_book.specs.Inboxes.{TakesIt};
-ghost use Rattle.tab_book.specs.Steps.{is_never_refused};
+ghost use Rattle.tab_book.specs.Replies.{IsAnswer, IsReply, IsCallReply, Leaves};
+ghost use Rattle.tab_book.specs.Steps.{ask_of, is_never_refused};
 
 use crate::bells::Bells;
 use crate::book::Book;
@@ -119,7 +121,9 @@ impl<H: Host> Shared<H> {
 
     /// Makes a command of the session. If it has to wait for a lock, it waits and asks again after each release, until
     /// it has another reply. If memory is refused while it asks again, the request stays queued, and an abort ends it.
-    pub fn call(&self, host: &H, seat: &Seat, command: Command) -> Result<SharedReply, AllocError> {
+    pub fn call(&self, host: &H, seat: &Seat, command: Command) -> Result<SharedReply, AllocError>
+        ensures { IfOk result (λ r. IsCallReply seat.now command r) }
+    {
         let told = self.step(host, seat, command)?;
         if matches!(told.reply(), Reply::Waiting) {
             return self.retry(host, seat);
@@ -129,7 +133,8 @@ impl<H: Host> Shared<H> {
 
     /// Makes a command of the session, once: the reply is `Waiting` if it has to wait for a lock.
     pub fn step(&self, host: &H, seat: &Seat, command: Command) -> Result<SharedReply, AllocError>
-        ensures { IsTrue (is_abort command) → IsOk result }
+        ensures abort { IsTrue (is_abort command) → IsOk result }
+        ensures reply { IfOk result (λ r. IsReply seat.now (DoCommand command) r) }
     {
         let answered = self.make(host, seat, Step::Do(command))?;
         Ok(answered.told)
@@ -137,7 +142,8 @@ impl<H: Host> Shared<H> {
 
     /// Asks for the lock that the session waits for, after each release once more, until it has another reply.
     pub fn retry(&self, host: &H, seat: &Seat) -> Result<SharedReply, AllocError>
-        ensures { IfOk result (λ r. r ≢ reply.Waiting) }
+        ensures over { IfOk result (λ r. r ≢ reply.Waiting) }
+        ensures reply { IfOk result (λ r. IsReply seat.now Retry r) }
     {
         for _ in host.forever() {
             if let Some(answered) = self.retry_once(host, seat, SLEEP)? {
@@ -155,7 +161,8 @@ impl<H: Host> Shared<H> {
         seat: &Seat,
         over: &AtomicBool,
     ) -> Result<Option<Answered>, AllocError>
-        ensures { IfOk result (λ answered. IfSome answered (λ a. a.told ≢ reply.Waiting)) }
+        ensures over { IfOk result (λ answered. IfSome answered (λ a. a.told ≢ reply.Waiting)) }
+        ensures answer { IfOk result (λ answered. IfSome answered (λ a. IsAnswer seat.now Retry a)) }
     {
         let bell = self.bells.of(seat.session);
         for _ in host.forever() {
@@ -185,7 +192,8 @@ impl<H: Host> Shared<H> {
         seat: &Seat,
         naps: u32,
     ) -> Result<Option<Answered>, AllocError>
-        ensures { IfOk result (λ answered. IfSome answered (λ a. a.told ≢ reply.Waiting)) }
+        ensures over { IfOk result (λ answered. IfSome answered (λ a. a.told ≢ reply.Waiting)) }
+        ensures answer { IfOk result (λ answered. IfSome answered (λ a. IsAnswer seat.now Retry a)) }
     {
         for _ in 0..naps {
             if let Some(answered) = self.retry_once(host, seat, NAP)? {
@@ -203,7 +211,8 @@ impl<H: Host> Shared<H> {
         seat: &Seat,
         at_most: u64,
     ) -> Result<Option<Answered>, AllocError>
-        ensures { IfOk result (λ answered. IfSome answered (λ a. a.told ≢ reply.Waiting)) }
+        ensures over { IfOk result (λ answered. IfSome answered (λ a. a.told ≢ reply.Waiting)) }
+        ensures answer { IfOk result (λ answered. IfSome answered (λ a. IsAnswer seat.now Retry a)) }
     {
         let bell = self.bells.of(seat.session);
         let seen = bell.notifications();
@@ -247,7 +256,9 @@ impl<H: Host> Shared<H> {
     }
 
     /// The session's transaction ends, and its post is dropped. Returns what became of the transaction.
-    pub fn leave(&self, host: &H, seat: &Seat) -> Transition {
+    pub fn leave(&self, host: &H, seat: &Seat) -> Transition
+        ensures { Leaves seat.now result }
+    {
         match self.make(host, seat, Step::Leave) {
             Ok(answered) => answered.transaction,
             Err(_) => unreachable!(),
@@ -261,7 +272,8 @@ impl<H: Host> Shared<H> {
 
     /// A step, after which those are woken that may go on since.
     fn make(&self, host: &H, seat: &Seat, step: Step) -> Result<Answered, AllocError>
-        ensures { IsTrue (is_never_refused step) → IsOk result }
+        ensures never { IsTrue (is_never_refused step) → IsOk result }
+        ensures answer { IfOk result (λ r. IsAnswer seat.now (ask_of step) r) }
     {
         let mut book = self.hold(host);
         let answered = book.step(seat.session, step)?;

@@ -8,6 +8,7 @@ ghost use Rattle.tab_model.specs.Standing.{may_enter as may_enter_of};
 ghost use Rattle.tab_core.specs.Runs.{ask_of as asked_of};
 ghost use Rattle.tab_core.specs.Steps.{takes_no_memory};
 ghost use Rattle.tab_book.specs.Releases.{is_retry, SaysReleases};
+ghost use Rattle.tab_book.specs.Replies.{IsAnswer};
 ghost use Rattle.tab_book.specs.Running.{IsRunning};
 ghost use Rattle.tab_book.specs.Transitions.{counted_levels, ended_by, is_leave, is_restart, transition};
 ghost use Rattle.tab_journal.specs.Journals.{is_full};
@@ -51,10 +52,12 @@ impl<H: Host> Book<H> {
         ensures transaction { IfOk result
             (λ r. r.transaction
             ≡ transition self.old.state self.new.state session (ask_of step) r.told) }
+        ensures answer { IfOk result (λ r. IsAnswer session (ask_of step) r) }
         ensures running { IsRunning self.new }
     {
+        // Known of the book before the step, and after it, is what its parts have to do with each other.
+        let _ = self.journal();
         let answered = self.answered(session, step);
-        // Known of the book from here on is what its parts have to do with each other.
         let _ = &self.core;
         answered
     }
