@@ -4,7 +4,7 @@ use std::sync::atomic::{AtomicBool, Ordering};
 use std::sync::{Condvar, Wait};
 use std::time::Duration;
 
-/// So many milliseconds pass between two looks for a connection.
+/// The milliseconds between two looks for a connection.
 const LOOK: u64 = 100;
 
 /// Says whether connections are looked for still.
@@ -29,7 +29,7 @@ impl Closing {
         self.changed.notify_all();
     }
 
-    /// Whether they are looked for no more.
+    /// Returns whether they are looked for no more.
     pub fn is_over(&self) -> bool {
         self.is_over.load(Ordering::SeqCst)
     }

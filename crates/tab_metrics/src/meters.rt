@@ -11,15 +11,15 @@ use tab_server::{Count, Note};
 #[derive(Clone, Copy, Default)]
 struct Open {
     session: u32,
-    /// When it began, where the clock could be read.
+    /// The time of its begin, if the clock could be read.
     since: Option<Instant>,
 }
 
-/// What stays the same from a server's start on.
+/// The constants of a server's run.
 #[derive(Clone, Copy, Debug, PartialEq, Eq)]
 pub struct About {
     pub version: &'static str,
-    /// How many connections may be served; with `--forever`, how many at once.
+    /// The most connections that are served; with `--forever`, at once.
     pub connections: u32,
 }
 
@@ -78,12 +78,12 @@ impl Meters {
         }
     }
 
-    /// So many more of these.
+    /// Counts `many` more of these.
     pub fn count(&self, count: Count, many: u64) {
         add(self.counter(count), many);
     }
 
-    /// What of a server's notes is counted.
+    /// Counts a server's report, if it has a counter.
     pub fn note(&self, note: Note) {
         match note {
             Note::Started(_) => add(&self.started, 1),
@@ -95,7 +95,7 @@ impl Meters {
         }
     }
 
-    /// What stays the same.
+    /// The constants of the server's run.
     pub fn about(&self) -> About {
         self.about
     }
@@ -126,7 +126,7 @@ impl Meters {
         self.overflows.load(Ordering::SeqCst)
     }
 
-    /// So many of these since the start.
+    /// The number of these since the start.
     pub fn total(&self, count: Count) -> u64 {
         self.counter(count).load(Ordering::SeqCst)
     }
@@ -146,19 +146,19 @@ impl Meters {
         seconds(rt, ended)
     }
 
-    /// How many transactions are open.
+    /// The number of open transactions.
     pub fn open<R: Wait>(&self, rt: &R) -> u64 {
         self.open.lock(rt).len() as u64
     }
 
-    /// How many seconds the oldest of them is open; 0 where there is none.
+    /// The seconds since the oldest of them began; 0 if there is none.
     pub fn oldest<R: Wait + Clock>(&self, rt: &R) -> u64 {
         let first = self.open.lock(rt).first().copied();
         seconds(rt, first)
     }
 }
 
-/// How many seconds it is open.
+/// The seconds since it began.
 fn seconds<R: Clock>(rt: &R, open: Option<Open>) -> u64 {
     let Some(
         Open {

@@ -14,15 +14,15 @@ use tab_tables::Catalog;
 #[derive(Drop)]
 pub struct Holdings {
     tables: Catalog,
-    /// How many sessions watch each of them.
+    /// The number of sessions that watch each of them.
     watchers: Vec<u64>,
     /// Entries of the journal.
     entries: u64,
 }
 
 impl Holdings {
-    /// Of a book, which is held only while its tables are shared, which takes constant time, and then once for each table while
-    /// its watchers are counted.
+    /// The holdings of a book. The book is locked only while its tables are shared, which takes constant time, and then
+    /// once for each table while its watchers are counted.
     pub fn of<H: Host>(
         host: &H,
         alloc: Global,
@@ -48,7 +48,7 @@ fn shared_tables<H: Host>(host: &H, shared: &Shared<H>) -> Result<(Catalog, u64)
     Ok((book.tables().share()?, book.journal().len() as u64))
 }
 
-/// What has a page of its meters, and a clock.
+/// A value that has a page of its meters, and a clock.
 pub trait Paged {
     /// The page, by what the book holds.
     fn page(&self, holdings: &Holdings) -> Result<String, AllocError>;
@@ -172,7 +172,7 @@ impl Page {
         self.counter("overflows", "Outboxes that were full.", meters.overflows())
     }
 
-    /// How many are open, and the age of the oldest in seconds.
+    /// The number of open ones, and the age of the oldest in seconds.
     fn transactions(&mut self, open: u64, oldest: u64) -> Result<(), AllocError> {
         self.gauge("open_transactions", "Transactions that are open.", open)?;
         self.gauge(
@@ -198,7 +198,7 @@ impl Page {
         self.gauge("records", "Records of all tables.", records)
     }
 
-    /// How many sessions watch each table.
+    /// The number of sessions that watch each table.
     fn watchers(&mut self, holdings: &Holdings) -> Result<(), AllocError> {
         self.head("table_watchers", "gauge", "Sessions that watch each table.")?;
         for (entry, count) in holdings.tables.tables().zip(&holdings.watchers) {

@@ -14,7 +14,7 @@ use std::thread::Threads;
 use tab_book::Shared;
 use tab_post::Host;
 
-/// So many clients are answered at once.
+/// The most clients that are answered at once.
 const CLIENTS: u64 = 16;
 
 /// Answers `GET /metrics` and `HEAD /metrics`, each client in a thread of its own, until no more are looked for.

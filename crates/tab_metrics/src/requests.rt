@@ -8,22 +8,22 @@ use httparse::Status;
 use httparse::spans::{EMPTY_HEADER_SPAN, parse_request};
 use std::io::{ErrorKind, Read};
 
-/// So many bytes a request's head has at most, so many headers, and so many pieces that it comes in.
+/// The most bytes of a request's head, the most headers, and the most pieces that it comes in.
 const HEAD: usize = 8_192;
 
 const HEADERS: usize = 64;
 
 const PIECES: usize = 64;
 
-/// What a request asks.
+/// The kind of a request.
 #[derive(Clone, Copy, Debug, PartialEq, Eq)]
 pub enum Request {
     Page,
     /// The page's head without the page.
     Head,
-    /// Of another path.
+    /// A request for another path.
     Elsewhere,
-    /// By another method.
+    /// A request by another method.
     Otherwise,
     /// No request of HTTP/1.
     Wrong,
@@ -31,7 +31,7 @@ pub enum Request {
     Long,
 }
 
-/// What is asked on the stream. None if it ends, or a read fails, before a head is whole.
+/// Reads the request on the stream. None if it ends, or a read fails, before a head is whole.
 pub fn read_request<R: Read>(reader: &mut R) -> Option<Request> {
     let mut head = [0u8; HEAD];
     let mut len: usize = 0;
@@ -53,7 +53,7 @@ pub fn read_request<R: Read>(reader: &mut R) -> Option<Request> {
     Some(Request::Long)
 }
 
-/// What these bytes ask, once they are a whole head.
+/// The request of these bytes, once they are a whole head.
 fn request_in(head: &[u8]) -> Option<Request>
     ensures { MatchOption result (HasNoRequest head.now) (IsAskedIn head.now) }
 {
@@ -76,7 +76,7 @@ fn request_in(head: &[u8]) -> Option<Request>
     }
 }
 
-/// Whether a request's target names the page. A query changes nothing.
+/// Returns whether a request's target names the page. A query changes nothing.
 fn names_page(target: &[u8]) -> bool
     ensures { IsTrue result ↔ NamesPage target.now }
 {

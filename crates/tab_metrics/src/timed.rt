@@ -5,7 +5,7 @@ use std::io::{self, ErrorKind, Read, Write};
 use std::net::{Shutdown, TcpStream};
 use std::time::Duration;
 
-/// So many seconds a client has to send its request and to take the reply.
+/// The seconds that a client has to send its request and to take the reply.
 const PATIENCE: u64 = 2;
 
 /// A client's stream. Each read and write fails once the client's time is over.
@@ -13,7 +13,7 @@ const PATIENCE: u64 = 2;
 pub struct Timed<'a, P: Paged> {
     paged: &'a P,
     stream: TcpStream,
-    /// When the client's time is over.
+    /// The end of the client's time.
     end: Duration,
 }
 

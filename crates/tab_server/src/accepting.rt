@@ -17,8 +17,8 @@ use tab_post::{Host, Inbox};
 use tab_proto::append_reply;
 use tab_sink::{RequestStream, Senders};
 
-/// Accepts so many connections, and serves each until its session has ended. Ends when all have; with an error where an
-/// accept failed, which ends the accepting.
+/// Accepts `connections` connections, and serves each until its session has ended. It ends when all have. A failed
+/// accept ends the accepting, and is returned as the error.
 pub fn serve<H: Host + Threads + Send + Sync, G: Gate + Notes + Sync>(
     host: &H,
     alloc: Global,
@@ -49,8 +49,8 @@ pub fn serve<H: Host + Threads + Send + Sync, G: Gate + Notes + Sync>(
     })
 }
 
-/// Serves connections for good, at once as many as the book has room for sessions. One that finds no seat is told so and closed.
-/// Where an accept, a join or a thread is refused it says so, and goes on after a pause.
+/// Serves connections for good, at once as many as the book has room for sessions. One that finds no room is refused
+/// and closed. If an accept, a join or a thread is refused, it reports that, and goes on after a pause.
 pub fn serve_forever<H: Host + Threads + Send + Sync, G: Gate + Notes + Sync>(
     host: &H,
     alloc: Global,
@@ -96,7 +96,7 @@ fn accepted(listener: &Listener, settings: Settings) -> io::Result<Streams> {
     Streams::of(listener.accept()?, settings)
 }
 
-/// Who finds no seat is told so, and closed.
+/// Refuses a connection for which there is no room, and closes it.
 fn turn_away(alloc: Global, streams: Streams) {
     let (_connection, mut stream) = Connection::new(streams);
     let mut frame = Vec::new(alloc);
@@ -136,7 +136,7 @@ fn serve_connection<H: Host + Threads + Send + Sync, G: Gate + Notes + Sync>(
     gate.note(Note::Ended(seat.session()));
 }
 
-/// Answers requests in this thread, beside one that sends events and one that watches. Nothing is answered where one of
+/// Answers requests in this thread, with a thread that sends events and one that watches. It answers nothing if one of
 /// them can't be started.
 fn serve_streams<H: Host + Threads + Send + Sync, G: Gate + Notes + Sync>(
     host: &H,

@@ -25,7 +25,7 @@ pub struct Answers<'a, W: Write, G: Gate> {
     written: u64,
 }
 
-/// Why a session ends before its stream: a write failed, or a reply or an item can't be written.
+/// The reason that a session ends before its stream: a write failed, or a reply or an item can't be written.
 #[derive(Clone, Copy, Debug, PartialEq, Eq)]
 pub struct Unwritten;
 
@@ -65,7 +65,7 @@ impl<'a, W: Write, G: Gate> Answers<'a, W, G> {
         }
     }
 
-    /// Who is told what is counted.
+    /// The counters.
     pub fn counts(&self) -> &'a G {
         self.gate
     }
@@ -78,7 +78,7 @@ impl<'a, W: Write, G: Gate> Answers<'a, W, G> {
 
     /// Keeps the reply to it, until some are written at once.
     pub fn keep<R: Wait>(&mut self, rt: &R, reply: &Reply) -> Result<(), Unwritten> {
-        // Where no memory is found to keep it in, it may still go in pieces.
+        // If there is no memory to keep it in, it may still go in pieces.
         let is_kept = append_reply_within(None, reply, LONG, &mut self.frames).unwrap_or(false);
         if !is_kept {
             self.send_long(rt, reply)?;
@@ -90,9 +90,9 @@ impl<'a, W: Write, G: Gate> Answers<'a, W, G> {
         Ok(())
     }
 
-    /// Sends a reply behind those that are kept, piece by piece.
+    /// Sends a reply after those that are kept, piece by piece.
     fn send_long<R: Wait>(&mut self, rt: &R, reply: &Reply) -> Result<(), Unwritten> {
-        // What the frame took that was not kept would stay for as long as the reply is on its way.
+        // The memory of the frame that was not kept would stay for as long as the reply is on its way.
         self.frames.shrink_to(3 * KEPT);
         let written = send_pieces(rt, self.sink, &mut self.frames, |pieces| {
             write_reply(pieces, None, reply)
@@ -101,7 +101,8 @@ impl<'a, W: Write, G: Gate> Answers<'a, W, G> {
         Ok(())
     }
 
-    /// Writes those that are kept. The gate is told of each call that was answered, also of one whose reply was sent before.
+    /// Writes those that are kept. It reports to the gate each call that was answered, also one whose reply was sent
+    /// before.
     pub fn write<R: Wait>(&mut self, rt: &R) -> Result<(), Broken>
         ensures { OnOk result (self.new.written ≡ self.new.answered) }
     {

@@ -22,7 +22,7 @@ pub struct Connection {
     pub sink: FrameSink<TcpStream>,
     pub watch: Watch,
     pub delivery: Delivery,
-    /// Whether an abort ends the wait of the operation before it.
+    /// True if an abort ends the wait of the operation before it.
     pub aborts: bool,
     stream: TcpStream,
     family: Family,
@@ -40,7 +40,7 @@ pub struct Streams {
 }
 
 impl Streams {
-    /// An error where no descriptor is left for one, or a limit of time can't be set.
+    /// Returns an error if no descriptor is left for one, or a limit of time can't be set.
     pub fn of(accepted: Accepted, settings: Settings) -> io::Result<Streams> {
         let Accepted { stream, family } = accepted;
         family.set_nodelay(&stream);
@@ -104,8 +104,8 @@ impl Connection {
         self.family.close(&self.stream);
     }
 
-    /// Waits, while a request waits for a lock, for the end of the stream, at which the session leaves, or for an abort that ends
-    /// the wait. Where other requests stand in the stream neither is seen, but that the client has broken off.
+    /// Watches the stream while a request waits for a lock. At the end of the stream the session leaves, and an abort
+    /// ends the wait. If other requests are in the stream, it sees neither, only that the client has broken off.
     pub fn watch_for<H: Host>(&self, host: &H, alloc: Global, shared: &Shared<H>, seat: &Seat) {
         for _ in host.forever() {
             let Some(wait) = self.watch.wanted(host) else {
@@ -135,7 +135,8 @@ impl Connection {
         }
     }
 
-    /// Whether the client has read nothing for longer than it may be idle: a write has failed, and the stream stands.
+    /// Returns whether the client has read nothing for longer than it may be idle: a write has failed, and the stream
+    /// is still open.
     pub fn has_stalled<R: Wait>(&self, rt: &R) -> bool {
         matches!(self.stream.write_timeout(), Ok(Some(_)))
             && self.sink.is_broken(rt)

@@ -45,8 +45,8 @@ pub fn event_loop<H: Host, W: Write, N: Notes>(
     }
 }
 
-/// Whether an item is longer than what is kept before it is sent. Only what holds records or events
-/// can be long.
+/// Returns whether an item is longer than the bytes that are kept before they are sent. Only an item with records or
+/// events can be long.
 fn is_long(item: &Item) -> bool {
     let mut len = 0;
     match item {
@@ -75,9 +75,9 @@ struct Events<'a, H: Host, W: Write, N: Notes> {
 }
 
 impl<'a, H: Host, W: Write, N: Notes> Events<'a, H, W, N> {
-    /// Sends the item and all that is there behind it. A post refuses only where its mailbox is full, and what that held is
-    /// received then before the inbox is found empty: where fewer items came than it may hold, nothing was refused, and the
-    /// book need not be asked.
+    /// Sends the item and all that are there after it. A post refuses only if its mailbox is full, and the items of a
+    /// full mailbox are received before the inbox is found empty. So if fewer items came than the mailbox has room for,
+    /// nothing was refused, and the book need not be asked.
     fn send_from(&mut self, first: &Item) -> Result<(), Unwritten> {
         self.keep(first)?;
         let mut count: usize = 1;
@@ -94,7 +94,7 @@ impl<'a, H: Host, W: Write, N: Notes> Events<'a, H, W, N> {
         self.send()
     }
 
-    /// Keeps what is left, and an overflow that was not told yet.
+    /// Keeps the remaining items, and an overflow that was not reported yet.
     fn keep_rest(&mut self) -> Result<(), Unwritten> {
         for _ in self.host.forever() {
             match self.shared.drained(self.host, self.seat, self.inbox) {
@@ -124,7 +124,7 @@ impl<'a, H: Host, W: Write, N: Notes> Events<'a, H, W, N> {
         Ok(())
     }
 
-    /// Sends an item behind those that are kept, piece by piece.
+    /// Sends an item after those that are kept, piece by piece.
     fn send_long(&mut self, item: &Item) -> Result<(), Unwritten> {
         let delivery = self.delivery;
         let written = send_pieces(self.host, self.sink, &mut self.frames, |pieces| {

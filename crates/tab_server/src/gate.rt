@@ -1,8 +1,8 @@
-//! What a server tells of its calls and sessions.
+//! The reports of a server about its calls and sessions.
 
 use std::io;
 
-/// What a server says while it goes on.
+/// A report of a server while it runs.
 #[derive(Clone, Copy, Debug, PartialEq, Eq)]
 pub enum Note {
     /// No connection was accepted.
@@ -17,13 +17,13 @@ pub enum Note {
     Started(u32),
     /// This session has left.
     Ended(u32),
-    /// Of this session's events those from this commit on are lost.
+    /// This session's events from this commit on are lost.
     Overflowed(u32, u64),
-    /// A connection has found no seat.
+    /// There was no room for a connection.
     NoSeat,
 }
 
-/// What a server counts.
+/// The counters of a server.
 #[derive(Clone, Copy, Debug, PartialEq, Eq)]
 pub enum Count {
     /// Bytes of requests.
@@ -42,9 +42,9 @@ pub enum Count {
     GivenUp,
 }
 
-/// Told what a server counts. It takes no memory and waits for no one for long: it is told of each call.
+/// A receiver of a server's counts. It takes no memory and waits for no one for long: it is called at each call.
 pub trait Counts {
-    /// So many more of these.
+    /// Counts `many` more of these.
     fn count(&self, count: Count, many: u64);
 
     /// The session has opened a transaction.
@@ -54,7 +54,8 @@ pub trait Counts {
     fn end(&self, session: u32);
 }
 
-/// Told of each call of each session: before it is made, and after its reply is written. A test holds calls by it.
+/// A receiver of each call of each session: before it is made, and after its reply is written. A test blocks calls by
+/// it.
 pub trait Gate: Counts {
     /// The frame of the session's call, counted from 1, is read.
     fn before(&self, session: u32, call: u64);
@@ -63,11 +64,11 @@ pub trait Gate: Counts {
     fn after(&self, session: u32, call: u64);
 }
 
-/// Told what a server says.
+/// A receiver of a server's reports.
 pub trait Notes: Counts {
     fn note(&self, note: Note);
 
-    /// Why the server ends.
+    /// Reports the reason of the server's end.
     fn fault(&self, error: &io::Error);
 }
 

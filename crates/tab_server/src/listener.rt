@@ -1,4 +1,4 @@
-//! Where clients connect, and what differs between the two kinds of socket.
+//! Listeners for clients, and the differences between the two kinds of socket.
 
 use std::io;
 use std::io::Write;
@@ -6,7 +6,7 @@ use std::net::{Shutdown, TcpListener, TcpStream};
 use std::os::fd::OwnedFd;
 use std::os::unix::net::UnixListener;
 
-/// Where clients connect.
+/// A listener for clients.
 #[derive(Drop)]
 pub enum Listener {
     /// A port.
@@ -31,7 +31,7 @@ pub struct Accepted {
 }
 
 impl Listener {
-    /// Waits for a client. An error where the system gives none, as where no descriptor is left.
+    /// Waits for a client. Returns an error if the system gives none, for example if no descriptor is left.
     pub fn accept(&self) -> io::Result<Accepted> {
         match self {
             Listener::Tcp(listener) => {
@@ -53,14 +53,15 @@ impl Listener {
 }
 
 impl Family {
-    /// What is written is sent at once. A Unix socket keeps nothing back.
+    /// Makes the stream send each write at once. A Unix socket keeps nothing back.
     pub fn set_nodelay(self, stream: &TcpStream) {
         if self == Family::Tcp {
             let _delayed = stream.set_nodelay(true);
         }
     }
 
-    /// Whether the client has reset the connection, or closed a Unix socket. What was sent before may be read still.
+    /// Returns whether the client has reset the connection, or closed a Unix socket. Bytes that were sent before may be
+    /// read still.
     pub fn has_broken_off(self, stream: &TcpStream) -> bool {
         match self {
             Family::Tcp => stream.peer_addr().is_err(),

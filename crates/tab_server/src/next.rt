@@ -1,4 +1,4 @@
-//! What stands next in a stream whose session waits.
+//! The next request in a stream whose session waits.
 
 use std::alloc::Global;
 use std::io::ErrorKind;
@@ -7,10 +7,10 @@ use tab_etf::{Frame, decode};
 use tab_model::Command;
 use tab_proto::read_command;
 
-/// An abort ends a wait where its frame has so many bytes at most.
+/// The longest frame of an abort that ends a wait, in bytes.
 const LONGEST: usize = 4_096;
 
-/// What stands next in the stream.
+/// The next part of the stream.
 #[derive(Clone, Copy, Debug, PartialEq, Eq)]
 pub enum Next {
     /// Its end, or a fault.
@@ -24,7 +24,7 @@ pub enum Next {
     Nothing,
 }
 
-/// Waits for something on the stream, and takes nothing of it. What it is, is looked at where an abort would be heard.
+/// Waits for bytes on the stream, and takes none of them. It looks at them if an abort would end the wait.
 pub fn next_on(alloc: Global, stream: &TcpStream, hears: bool) -> Next {
     let mut bytes = [0u8; LONGEST];
     let room = if hears { LONGEST } else { 1 };
@@ -37,7 +37,7 @@ pub fn next_on(alloc: Global, stream: &TcpStream, hears: bool) -> Next {
     }
 }
 
-/// Whether the stream is as it was: nothing came in time, or the process was stopped meanwhile.
+/// Returns whether the stream is as it was: nothing came in time, or the process was stopped meanwhile.
 fn goes_on(kind: ErrorKind) -> bool {
     matches!(kind, ErrorKind::WouldBlock | ErrorKind::Interrupted)
 }
@@ -60,7 +60,7 @@ fn next_in(alloc: Global, bytes: &[u8]) -> Next {
     }
 }
 
-/// Whether a frame that has come is one of an abort.
+/// Returns whether a frame that has come is one of an abort.
 pub fn is_abort_in(alloc: Global, frame: &Frame) -> bool {
     match frame {
         Frame::Empty => false,

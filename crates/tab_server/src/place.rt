@@ -1,13 +1,13 @@
-//! Where in a frame a stream stands, so that a frame that finds no memory can be read over.
+//! The position of a stream in a frame, so that a frame for which there is no memory can be skipped.
 
 ghost use Rattle.std.specs.Prelude.{◌≤◌, length};
 
-/// What of the frame at hand has come.
+/// The part of the current frame that has come.
 #[derive(Clone, Copy, Debug, PartialEq, Eq)]
 pub enum Place {
-    /// So many bytes of its length, which say so much.
+    /// The number of its length's bytes that have come, and their value.
     Length(u8, u32),
-    /// All but so many bytes of its payload.
+    /// The number of its payload's bytes that are still to come.
     Payload(u32),
 }
 
@@ -17,12 +17,12 @@ impl Place {
         Place::Length(0, 0)
     }
 
-    /// Whether it is between two frames.
+    /// Returns whether it is between two frames.
     pub fn is_between(self) -> bool {
         matches!(self, Place::Length(0, _))
     }
 
-    /// Goes on over what of the frame at hand stands in a piece, and gives how many bytes that is.
+    /// Goes on over the part of the current frame in a piece, and returns its number of bytes.
     pub fn pass(&mut self, piece: &[u8]) -> usize
         ensures { result ≤ length piece.now }
     {
@@ -34,7 +34,7 @@ impl Place {
         head + self.pass_payload(left)
     }
 
-    /// So many bytes of the length are still to come.
+    /// The number of the length's bytes that are still to come.
     fn length_left(self) -> usize {
         match self {
             Place::Length(count, _) => 4usize.saturating_sub(usize::from(count)),
@@ -42,7 +42,7 @@ impl Place {
         }
     }
 
-    /// Behind the next byte of the length.
+    /// The position after the next byte of the length.
     fn behind(self, byte: u8) -> Place {
         let Place::Length(count, value) = self else {
             return self;

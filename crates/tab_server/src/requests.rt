@@ -21,9 +21,9 @@ use tab_term::{Term, Terms};
 /// The largest piece that is read at once.
 const PIECE: usize = 65_536;
 
-/// The requests of one connection, and the seat that their commands are handed to. The book is held from a command's first
-/// step on until it waits, rests or is answered. Before it waits or rests, what was answered is written, and where that takes
-/// longer than a nap the stream is watched.
+/// The requests of one connection, and the session that runs their commands. The book is locked from a command's first
+/// step until it waits, backs off or is answered. Before it waits or backs off, the answers are written. If the wait is
+/// longer than one sleep the stream is watched.
 #[derive(Drop)]
 pub struct Requests<'a, H: Host, W: Write, G: Gate> {
     pub alloc: Global,
@@ -34,17 +34,17 @@ pub struct Requests<'a, H: Host, W: Write, G: Gate> {
     pub answers: Answers<'a, W, G>,
     pub held: Held<'a, H>,
     pub transactions: Transactions,
-    /// Where the stream stands, and whether the frame there is read over.
+    /// The position of the stream, and whether the frame there is skipped.
     pub place: Place,
     pub skips: bool,
-    /// Whether an abort ends the wait of the operation before it.
+    /// True if an abort ends the wait of the operation before it.
     pub aborts: bool,
-    /// What ends the wait of the command at hand, and whether an abort has ended it.
+    /// The end of the current command's wait, and whether an abort has ended it.
     pub behind: Behind,
     pub aborted: bool,
 }
 
-/// Why no more requests of a session are answered.
+/// The reason that no more requests of a session are answered.
 #[derive(Clone, Copy, Debug, PartialEq, Eq)]
 pub enum Ending {
     /// No more came, or they could not be read or answered.
@@ -53,8 +53,9 @@ pub enum Ending {
     Idle,
 }
 
-/// Answers the requests of a session in order, until its stream ends, a read or a write fails, a frame is too long or no
-/// memory is found for a reply's, or a read takes too long while its transaction is open. Then the session leaves.
+/// Answers the requests of a session in order. Then the session leaves. It stops if the stream ends, a read or a write
+/// fails, or a frame is too long. It also stops if there is no memory for a reply's frame, or a read takes too long
+/// while the transaction is open.
 pub fn serve_session<H: Host, R: Read, W: Write, G: Gate>(
     host: &H,
     alloc: Global,
@@ -88,7 +89,7 @@ pub fn serve_session<H: Host, R: Read, W: Write, G: Gate>(
 }
 
 impl<'a, H: Host, W: Write, G: Gate> Requests<'a, H, W, G> {
-    /// All requests, behind which no transaction is open.
+    /// Serves all requests, after which no transaction is open.
     fn all<R: Read>(&mut self, reader: &mut R) -> Ending {
         match self.stream(reader) {
             Ok(ending) => ending,
@@ -129,7 +130,8 @@ impl<'a, H: Host, W: Write, G: Gate> Requests<'a, H, W, G> {
         unreachable!()
     }
 
-    /// Whether a transaction was open. An abort tells, which changes nothing where none is.
+    /// Ends the transaction, and returns whether one was open. The reply to an abort shows it, and it changes nothing
+    /// if none is.
     fn ends_transaction(&mut self) -> bool {
         let reason = Term::List(Terms::from_vec(Vec::new(self.alloc)));
         let told = self.make(Command::Abort(reason));
@@ -153,7 +155,7 @@ impl<'a, H: Host, W: Write, G: Gate> Requests<'a, H, W, G> {
         }
     }
 
-    /// How much of a piece belongs to a frame that is read over.
+    /// The number of bytes of a piece that belong to a frame that is skipped.
     fn skipped(&mut self, piece: &[u8]) -> usize
         ensures { result ≤ length piece.now }
     {
@@ -183,7 +185,8 @@ impl<'a, H: Host, W: Write, G: Gate> Requests<'a, H, W, G> {
         Err(Unwritten)
     }
 
-    /// Memory is short: takes the frames of a piece one by one. One that finds none still is told so, and read over.
+    /// Takes the frames of a piece one by one, if memory is short. A frame for which there still is none is refused,
+    /// and skipped.
     fn one_by_one(&mut self, splitter: &mut Splitter, piece: &[u8]) -> Result<(), Unwritten> {
         let mut rest = piece;
         for _ in self.host.forever() {
@@ -222,7 +225,7 @@ impl<'a, H: Host, W: Write, G: Gate> Requests<'a, H, W, G> {
         Ok(())
     }
 
-    /// The reply to a payload, behind which this frame has come. None where an abort has ended its wait.
+    /// Replies to a payload. `next` is the frame after it, if it has come. Returns None if an abort has ended its wait.
     fn payload(&mut self, payload: &[u8], next: Option<&Frame>) -> Option<SharedReply> {
         let held = match decode(self.alloc, payload) {
             Ok(held) => held,

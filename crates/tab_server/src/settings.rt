@@ -3,13 +3,13 @@
 use std::time::Duration;
 use tab_proto::Delivery;
 
-/// How all connections of a server are served.
+/// The settings of all connections of a server.
 #[derive(Clone, Copy)]
 pub struct Settings {
     pub delivery: Delivery,
-    /// A session from which nothing comes for so long leaves where its transaction is open, or where it reads nothing.
+    /// A session from which nothing comes for this time leaves if its transaction is open, or if it reads nothing.
     pub idle: Option<Duration>,
-    /// An abort ends the wait of the operation before it, which is told nothing then.
+    /// An abort ends the wait of the operation before it, which has no reply then.
     pub aborts: bool,
 }
 

@@ -16,26 +16,26 @@ use tab_model::{Command, Reply, SharedReply};
 use tab_oneshot::{Steps, one_shot};
 use tab_post::Host;
 
-/// So many naps of 20 milliseconds a restarted transaction rests at most. A client that drives two connections from one thread
-/// has to be told `restart` while the other's transaction is open.
+/// The most sleeps of 20 milliseconds of a restarted transaction's back-off. A client that drives two connections from
+/// one thread has to get `restart` while the other's transaction is open.
 const NAPS: u32 = 5;
 
-/// So many a one-shot rests before its next attempt. Its client is not told of a restart, so it need not ask again soon: it is
+/// The same of a one-shot before its next attempt. Its client sees no restart, so it need not repeat it soon: it is
 /// woken when its lock is free. Each attempt ends in time, since their number may be limited.
 const ONE_SHOT_NAPS: u32 = 50;
 
-/// What ends a request's wait besides its lock.
+/// The end of a request's wait other than by its lock.
 #[derive(Clone, Copy, Debug, PartialEq, Eq)]
 pub enum Behind {
     Nothing,
     /// An abort that comes next on the stream.
     Stream,
-    /// An abort that has come behind it.
+    /// An abort that has come after it.
     Abort,
 }
 
 impl<'a, H: Host, W: Write, G: Gate> Requests<'a, H, W, G> {
-    /// The reply to a command, behind which this frame has come. None where an abort has ended its wait.
+    /// Replies to a command. `next` is the frame after it, if it has come. Returns None if an abort has ended its wait.
     pub fn command(&mut self, command: Command, next: Option<&Frame>) -> Option<SharedReply> {
         self.behind = self.end_of_wait(next);
         self.aborted = false;
@@ -47,8 +47,8 @@ impl<'a, H: Host, W: Write, G: Gate> Requests<'a, H, W, G> {
         Some(told)
     }
 
-    /// A one-shot is run by its driver; any other command is one step, whose answer it waits for. Who is told to restart
-    /// rests first.
+    /// Answers a command. A one-shot is run by its driver; any other command is one step, whose answer it waits for. A
+    /// session that is restarted backs off first.
     fn answer(&mut self, command: Command) -> SharedReply {
         if matches!(command, Command::OneShot(..)) {
             let alloc = self.alloc;
@@ -72,7 +72,7 @@ impl<'a, H: Host, W: Write, G: Gate> Requests<'a, H, W, G> {
         told
     }
 
-    /// A restart is counted, and the transaction rests for so many naps at most.
+    /// Counts a restart, and backs off for at most `naps` sleeps.
     fn restarted(&mut self, naps: u32) {
         self.answers.counts().count(Count::Restarts, 1);
         self.rest(naps);
@@ -92,7 +92,7 @@ impl<'a, H: Host, W: Write, G: Gate> Requests<'a, H, W, G> {
         self.transactions.count(self.answers.counts());
     }
 
-    /// One step of the session; the book stays held.
+    /// Makes one step of the session; the book stays locked.
     pub fn make(&mut self, command: Command) -> Result<SharedReply, AllocError>
         ensures { IsTrue (is_abort command) → IsOk result }
     {
@@ -113,7 +113,7 @@ impl<'a, H: Host, W: Write, G: Gate> Requests<'a, H, W, G> {
         told
     }
 
-    /// What ends the wait of a command behind which this frame has come.
+    /// The end of a command's wait, if this frame has come after it.
     fn end_of_wait(&self, next: Option<&Frame>) -> Behind {
         match next {
             Some(frame) if self.aborts && is_abort_in(self.alloc, frame) => Behind::Abort,
@@ -122,7 +122,7 @@ impl<'a, H: Host, W: Write, G: Gate> Requests<'a, H, W, G> {
         }
     }
 
-    /// Who was restarted rests until its lock is free. The stream is watched after the first nap.
+    /// Backs off after a restart until the session's lock is free. The stream is watched after the first sleep.
     fn rest(&mut self, naps: u32) {
         if matches!(self.held.rest(&self.seat), Rest::Over | Rest::Free) {
             return;
@@ -138,8 +138,9 @@ impl<'a, H: Host, W: Write, G: Gate> Requests<'a, H, W, G> {
         self.watch.end(self.host);
     }
 
-    /// The answer of the request that waits; None where an abort ends its wait. Where memory is refused while it asks again the
-    /// request is in the queue still, and a connection has no word for it: so it waits on, and asks again after a pause.
+    /// The answer of the request that waits; None if an abort ends its wait. If memory is refused while it asks again,
+    /// the request is still in the queue, and a connection has no reply for that. So it waits on, and asks again after
+    /// a pause.
     fn granted(&self) -> Option<Answered>
         ensures { IfSome result (λ a. a.told ≢ reply.Waiting) }
     {
@@ -165,7 +166,7 @@ impl<'a, H: Host, W: Write, G: Gate> Steps for Requests<'a, H, W, G> {
         self.make(command)
     }
 
-    /// None where an abort has ended the wait, or no one is left to be answered.
+    /// None if an abort has ended the wait, or no one is left to be answered.
     fn wait(&mut self) -> Option<Result<SharedReply, AllocError>> {
         self.give_back();
         self.answers.counts().count(Count::Waits, 1);

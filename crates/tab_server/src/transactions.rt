@@ -3,12 +3,12 @@
 use crate::gate::{Count, Counts};
 use tab_book::{TransactionEnd, Transition};
 
-/// What the steps of one hold of the book did to the session's transactions. It is counted after the hold, so that the book is
-/// not locked meanwhile.
+/// The effect of the steps of one hold of the book on the session's transactions. It is counted after the hold, so that
+/// the book is not locked meanwhile.
 #[derive(Clone, Copy, Debug)]
 pub struct Transactions {
     session: u32,
-    /// Whether a transaction is open, and whether one was when it was counted last.
+    /// True if a transaction is open, and if one was when it was counted last.
     open: bool,
     counted: bool,
     commits: u64,

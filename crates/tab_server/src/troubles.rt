@@ -4,7 +4,7 @@ use crate::gate::{Note, Notes};
 use std::sync::{Condvar, Wait};
 use std::time::Duration;
 
-/// So many milliseconds pass after a failure before it is tried again.
+/// The milliseconds after a failure before the next try.
 const PAUSE: u64 = 100;
 
 /// A pause, in which what failed may get better.
@@ -13,7 +13,8 @@ pub fn pause<R: Wait>(rt: &R) {
     never.sleep(rt, never.notifications(), Duration::from_millis(PAUSE));
 }
 
-/// Failures to accept. Of several in a row the first is told: a server that has no descriptor left would fill a log.
+/// Failures to accept. Of several in a row only the first is reported: a server that has no descriptor left would fill
+/// a log.
 #[derive(Drop)]
 pub struct Troubles<'n, N: Notes> {
     notes: &'n N,
@@ -26,7 +27,7 @@ impl<'n, N: Notes> Troubles<'n, N> {
         Troubles { notes, told: false }
     }
 
-    /// A failure, behind which it pauses.
+    /// Reports a failure, and pauses.
     pub fn tell<R: Wait>(&mut self, rt: &R, note: Note) {
         if !self.told {
             self.told = true;

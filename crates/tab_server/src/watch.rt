@@ -3,7 +3,7 @@
 use std::sync::atomic::{AtomicBool, Ordering};
 use std::sync::{Condvar, Mutex, Wait};
 
-/// What the thread that reads requests is doing.
+/// The state of the thread that reads requests.
 #[derive(Clone, Copy, Debug, PartialEq, Eq)]
 enum Phase {
     Serving,
@@ -16,7 +16,7 @@ enum Phase {
 #[derive(Clone, Copy, Debug, PartialEq, Eq)]
 pub struct Waited {
     number: u64,
-    /// Whether it ends by an abort that stands next in the stream.
+    /// True if it ends by an abort that is next in the stream.
     pub hears: bool,
 }
 
@@ -33,13 +33,13 @@ impl Doing {
     }
 }
 
-/// Says when a session's stream is to be watched: while a request waits for a lock no one else reads the stream, and an end
-/// of it would not be seen.
+/// Announces when a session's stream is to be watched. While a request waits for a lock no other thread reads the
+/// stream, and its end would not be seen.
 #[derive(Drop)]
 pub struct Watch {
     doing: Mutex<Doing>,
     changed: Condvar,
-    /// Whether an abort has ended the last wait.
+    /// True if an abort has ended the last wait.
     aborted: AtomicBool,
 }
 
@@ -59,7 +59,7 @@ impl Watch {
         }
     }
 
-    /// A request waits for a lock, and hears an abort that stands next in the stream, or doesn't.
+    /// Begins the wait of a request for a lock, which an abort that is next in the stream ends if `hears`.
     pub fn begin<R: Wait>(&self, rt: &R, hears: bool) {
         let mut doing = self.doing.lock(rt);
         self.aborted.store(false, Ordering::SeqCst);
@@ -82,7 +82,7 @@ impl Watch {
         self.set(rt, Phase::Ended);
     }
 
-    /// Waits until a request waits for a lock. None where no more come.
+    /// Waits until a request waits for a lock. None if no more come.
     pub fn wanted<R: Wait>(&self, rt: &R) -> Option<Waited> {
         let doing = self.changed.wait_while(
             rt,
@@ -96,7 +96,7 @@ impl Watch {
         }
     }
 
-    /// Whether this wait goes on.
+    /// Returns whether this wait goes on.
     pub fn waits<R: Wait>(&self, rt: &R, wait: Waited) -> bool {
         self.doing.lock(rt).is_in(wait)
     }
@@ -109,7 +109,7 @@ impl Watch {
         drop(doing);
     }
 
-    /// An abort ends this wait, where it goes on.
+    /// Ends this wait by an abort, if it goes on. Returns whether it did.
     pub fn abort<R: Wait>(&self, rt: &R, wait: Waited) -> bool {
         let doing = self.doing.lock(rt);
         let ends = doing.is_in(wait);
@@ -120,7 +120,7 @@ impl Watch {
         ends
     }
 
-    /// Whether an abort has ended the last wait.
+    /// True once an abort has ended the last wait.
     pub fn aborted(&self) -> &AtomicBool {
         &self.aborted
     }

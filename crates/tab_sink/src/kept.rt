@@ -2,7 +2,7 @@
 
 ghost use Rattle.std.specs.Prelude.{◌≡◌, ◌≤◌, [], vec_capacity};
 
-/// So many bytes of frames are kept before they are written.
+/// The bytes of frames that are kept before they are written.
 pub const KEPT: usize = 65_536;
 
 /// Room for so many bytes stays for the frames that come next.

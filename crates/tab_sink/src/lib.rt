@@ -1,4 +1,4 @@
-//! The two ends of a connection: where its frames are written, and where its requests are read from.
+//! The two ends of a connection: the sink of its frames, and the stream of its requests.
 
 #![tactic(auto)]
 
@@ -72,12 +72,12 @@ impl<W: Write> FrameSink<W> {
         }
     }
 
-    /// The sink, alone: nothing of another's comes between what is put in it meanwhile.
+    /// Locks the sink: no other thread's bytes come between those that are put in it meanwhile.
     pub fn hold<R: Wait>(&self, rt: &R) -> MutexGuard<'_, Sink<W>> {
         self.sink.lock(rt)
     }
 
-    /// The sink, alone, where no one holds it.
+    /// Locks the sink, if no one holds it.
     pub fn try_hold(&self) -> Option<MutexGuard<'_, Sink<W>>> {
         self.sink.try_lock()
     }
@@ -87,7 +87,7 @@ impl<W: Write> FrameSink<W> {
         self.sink.lock(rt).put(frames)
     }
 
-    /// Whether a write has failed.
+    /// Returns whether a write has failed.
     pub fn is_broken<R: Wait>(&self, rt: &R) -> bool {
         self.sink.lock(rt).broken
     }

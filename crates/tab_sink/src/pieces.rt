@@ -7,19 +7,19 @@ use std::sync::Wait;
 use tab_etf::{Counted, FrameFault, Target, encoded_len};
 use tab_term::Term;
 
-/// Whether a length is more than what is kept once this term is added to it.
+/// Adds a term's length to a length, and returns whether that is more than `KEPT` now.
 pub fn reaches(len: &mut u64, term: &Term) -> bool {
     passes(len, encoded_len(term).unwrap_or(u64::MAX))
 }
 
-/// Whether a length is more than what is kept once so many bytes are added to it.
+/// Adds `more` bytes to a length, and returns whether that is more than `KEPT` now.
 pub fn passes(len: &mut u64, more: u64) -> bool {
     *len = len.saturating_add(more);
     *len > KEPT as u64
 }
 
-/// Sends what is written to the pieces, behind what is kept: whole it would take as much room as it
-/// is long, which the C library would not give back. Tells how many bytes both were.
+/// Sends the kept bytes, and after them those that `write` writes, piece by piece. A whole frame would take as much
+/// room as it is long, which the C library would not give back. Returns the number of bytes of both.
 pub fn send_pieces<R: Wait, W: Write, F>(
     rt: &R,
     sink: &FrameSink<W>,
@@ -44,12 +44,12 @@ where
     Ok(written)
 }
 
-/// A sink that is held, and what waits to be put in it.
+/// A sink that is locked, and the bytes that wait to be put in it.
 #[derive(Drop)]
 pub struct Pieces<'a, W: Write> {
     sink: &'a mut Sink<W>,
     kept: &'a mut Vec<u8>,
-    /// So many bytes were put in it.
+    /// The number of bytes that were put in it.
     written: u64,
 }
 

@@ -9,15 +9,15 @@ use std::io::{self, ErrorKind, Read};
 use std::net::TcpStream;
 use std::sync::atomic::{AtomicU32, Ordering};
 
-/// So often a read asks the system for bytes before it waits for them: for some 20 microseconds.
+/// The number of times that a read asks the system for bytes before it waits for them: for some 20 microseconds.
 const TURNS: u32 = 60;
 
-/// Which of a server's sessions have sent requests.
+/// The sessions of a server that have sent requests.
 #[derive(Drop)]
 pub struct Senders {
     /// The one that sent the last.
     last: AtomicU32,
-    /// How many are not answered yet.
+    /// The number of those that are not answered yet.
     busy: AtomicU32,
 }
 
@@ -30,7 +30,7 @@ impl Senders {
         }
     }
 
-    /// This session has sent some. Tells whether it sent the last before.
+    /// Notes that this session has sent some. Returns whether it sent the last before.
     fn begin(&self, session: u32) -> bool {
         self.busy.fetch_add(1, Ordering::Relaxed);
         self.last.swap(session, Ordering::Relaxed) == session
@@ -46,17 +46,17 @@ impl Senders {
     }
 }
 
-/// A stream that requests are read from. A thread that waits for bytes wakes some microseconds after they come, so where its session
-/// alone sends any, a read asks for them again and again before it waits. It does so only while all sessions are answered: who
-/// waits for a lock would find it taken again by the time that its thread is awake.
+/// A stream that requests are read from. A thread that waits for bytes wakes some microseconds after they come. So if
+/// only its session sends any, a read polls for them before it waits. It polls only while all sessions are answered: a
+/// session that waits for a lock would find it taken again by the time that its thread is awake.
 pub struct RequestStream<'a> {
     stream: TcpStream,
     sink: &'a FrameSink<TcpStream>,
     senders: &'a Senders,
     session: u32,
-    /// Whether the last two pieces that the server read were its own.
+    /// True if the last two pieces that the server read were its own.
     is_alone: bool,
-    /// Whether the last piece is not answered yet.
+    /// True if the last piece is not answered yet.
     is_busy: bool,
 }
 
@@ -95,7 +95,8 @@ impl<'a> RequestStream<'a> {
         }
     }
 
-    /// What comes soon. Nothing is written meanwhile: where a stream's reads don't wait, its writes don't either.
+    /// Reads the bytes that come soon. Nothing is written meanwhile: if a stream's reads don't wait, its writes don't
+    /// either.
     fn poll(&self, buf: &mut [u8]) -> Option<io::Result<usize>>
         ensures { IfSome result (λ read. ReadsAtMost read buf.new) }
     {

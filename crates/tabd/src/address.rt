@@ -1,4 +1,4 @@
-//! Where the server listens for clients.
+//! The address at which the server listens for clients.
 
 use crate::socket_file::SocketFile;
 use std::io;
@@ -11,7 +11,7 @@ use tab_words::Address;
 /// The greatest number of a standard stream.
 const STANDARD_ERROR: RawFd = 2;
 
-/// Where a listener is.
+/// The place of a listener.
 #[derive(Drop)]
 pub enum Place<'a> {
     Port(u16),
@@ -28,7 +28,7 @@ impl<'a> Place<'a> {
     }
 }
 
-/// Listens at the address. An error where the system refuses it, or a standard stream is closed.
+/// Listens at the address. Returns an error if the system refuses it, or a standard stream is closed.
 pub fn listen_at<'a, R: Net<Listener = TcpListener, Stream = TcpStream> + Files>(
     rt: &R,
     address: &'a Address,

@@ -6,10 +6,10 @@ ghost use Rattle.tabd.specs.Endings.{end_of, end_of_words, line_of, status_of};
 use crate::Ended;
 use clap::error::ErrorKind;
 
-/// How a run ended.
+/// The end of a run.
 #[derive(Debug, Drop)]
 pub enum End {
-    /// What was asked for is done or shown.
+    /// The run is done, or the text is shown.
     Done,
     /// The words were wrong.
     WrongWords,
@@ -17,7 +17,7 @@ pub enum End {
     Stopped(Ended),
 }
 
-/// How a replay ends the program.
+/// The end of the program after a replay.
 pub fn end_of_replay(replayed: Result<(), Ended>) -> End
     ensures { result ≡ end_of replayed }
 {
@@ -27,7 +27,7 @@ pub fn end_of_replay(replayed: Result<(), Ended>) -> End
     }
 }
 
-/// How words that ask for no run end the program, once the parser's text is shown.
+/// The end of the program for words that ask for no run, once the parser's text is shown.
 pub fn end_of_words(kind: ErrorKind) -> End
     ensures { result ≡ end_of_words kind }
 {

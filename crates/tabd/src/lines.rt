@@ -9,7 +9,7 @@ use tab_metrics::{Holdings, Meters, Paged, page_of};
 use tab_server::{Count, Counts, Gate, Note, Notes};
 use tab_words::Log;
 
-/// What has a line, and what is counted.
+/// The settings of lines and counters.
 #[derive(Drop)]
 pub struct Told {
     pub log: Log,
@@ -24,16 +24,16 @@ pub struct Lines<R, E> {
     alloc: Global,
     log: Log,
     device: Mutex<E>,
-    /// Why the server ends.
+    /// The reason of the server's end.
     reason: Mutex<Option<String>>,
-    /// Where the counters may be asked for, or transactions are timed.
+    /// The counters, if they are served or transactions are timed.
     meters: Option<Meters>,
     /// A transaction that was open for so many seconds has a line.
     slow: Option<u32>,
 }
 
 impl<R: Wait, E: Target> Lines<R, E> {
-    /// Writes lines to this device, behind a lock; of the log only what is asked for.
+    /// Writes lines to this device, under a lock; of the log only those that are asked for.
     pub fn new(rt: R, alloc: Global, told: Told, device: E) -> Lines<R, E> {
         let Told { log, meters, slow } = told;
         Lines {
@@ -47,7 +47,7 @@ impl<R: Wait, E: Target> Lines<R, E> {
         }
     }
 
-    /// Why the server has ended, behind the line of its end.
+    /// Writes the reason of the server's end, after the line of its end.
     pub fn put_reason(&self) {
         if let Some(reason) = self.reason.lock(&self.rt).take() {
             self.put(&reason);
@@ -66,14 +66,14 @@ impl<R: Wait, E: Target> Lines<R, E> {
         }
     }
 
-    /// Of a session, where sessions have lines.
+    /// Writes a line of a session, if sessions have lines.
     fn log_of(&self, session: u32, what: &str) {
         if matches!(self.log, Log::Full) {
             self.put_of(session, what);
         }
     }
 
-    /// Of a transaction that was open for so many seconds, if that is long.
+    /// Writes a line of a transaction that was open for `seconds` seconds, if that is long.
     fn log_slow(&self, session: u32, seconds: u64) {
         match self.slow {
             Some(least) if seconds >= u64::from(least) => {

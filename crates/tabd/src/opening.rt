@@ -39,7 +39,8 @@ fn limits(service: &Service) -> Limits
     }
 }
 
-/// So many sessions the book has room for. One that serves for good has none beside its connections.
+/// The number of sessions that the book has room for. A server that serves for good has none in addition to its
+/// connections.
 fn sessions(service: &Service) -> u32
     ensures sessions { result ≡ sessions_of service.now }
     ensures room { result ≤ 64 }

@@ -22,9 +22,9 @@ use tab_post::{Channel, Naming, Opened};
 use tab_server::{Gate, Notes};
 use tab_words::Run;
 
-/// Does what the words ask for, and gives the program's exit status. On the errors stands the line of this end and nothing
-/// else, but that of wrong words the parser's text stands there. Its text of what was asked for, as help, is put on the output.
-/// What a server says while it goes on it says to the gate.
+/// Runs the words, and returns the program's exit status. The errors have only the line of this end, or for wrong words
+/// only the parser's text. The text of a help or version is put on the output. The gate has the reports of a server
+/// while it runs.
 pub fn run<J, H, R, W, E, G>(
     rt: &H,
     opened: Opened<Channel>,

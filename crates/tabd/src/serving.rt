@@ -22,7 +22,7 @@ use tab_post::{Channel, Host, Naming, Opened};
 use tab_server::{Delivery, Gate, Listener, Notes, Settings, serve, serve_forever};
 use tab_words::{Address, Service};
 
-/// How connections are served, by what the words say.
+/// The settings of connections, from the words.
 fn settings(delivery: Delivery, idle: Option<u32>, aborts: bool) -> Settings
     ensures delivery { result.delivery ≡ delivery }
     ensures aborts { result.aborts ≡ aborts }
@@ -83,7 +83,7 @@ where
     }
 }
 
-/// Listens for who asks for the counters too, and serves.
+/// Listens for clients of the counters too, and serves.
 fn serve_at<J, R, W, G>(
     rt: R,
     alloc: Global,
@@ -152,7 +152,7 @@ fn refused<N: Notes>(error: &io::Error, notes: &N) -> Ended {
     Ended::Device
 }
 
-/// Serves clients, and who asks for the counters in a thread of its own.
+/// Serves clients, and those of the counters in a thread of its own.
 fn serve_on<H, W, G>(
     host: H,
     alloc: Global,

@@ -9,7 +9,7 @@ use std::os::unix::net::UnixListener;
 use std::rt::Files;
 use std::{fs, io};
 
-/// A socket file that this server has made, as long as no other stands in its place.
+/// A socket file that this server has created, as long as no other is in its place.
 #[derive(Drop)]
 pub struct SocketFile<'a> {
     path: &'a str,
@@ -18,8 +18,8 @@ pub struct SocketFile<'a> {
 }
 
 impl<'a> SocketFile<'a> {
-    /// Listens at the path, by a file that takes the place of one at which no one listens. An error where any other file
-    /// stands there, or a server listens, which is told by a connection that is closed at once.
+    /// Listens at the path, by a file that replaces one at which no one listens. Returns an error if any other file is
+    /// there, or a server listens, which a connection finds out that is closed at once.
     pub fn bind<R: Net + Files>(
         rt: &R,
         path: &'a str,
@@ -37,12 +37,12 @@ impl<'a> SocketFile<'a> {
         Ok((listener, file))
     }
 
-    /// Where the file lies.
+    /// The path of the file.
     pub fn path(&self) -> &'a str {
         self.path
     }
 
-    /// Removes the file, where it is the one that was made.
+    /// Removes the file, if it is the one that was created.
     pub fn remove<R: Files>(&self, rt: &R) {
         if let Ok(found) = fs::symlink_metadata(rt, self.path) {
             if self.is(&found) {
@@ -56,7 +56,7 @@ impl<'a> SocketFile<'a> {
     }
 }
 
-/// Whether a socket file stands at the path at which no one listens.
+/// Returns whether the path has a socket file at which no one listens.
 fn is_left<R: Net + Files>(rt: &R, path: &str) -> bool {
     match fs::symlink_metadata(rt, path) {
         Ok(found) => found.file_type().is_socket() && is_refused(rt, path),
@@ -64,7 +64,8 @@ fn is_left<R: Net + Files>(rt: &R, path: &str) -> bool {
     }
 }
 
-/// Whether no one listens. The connection waits for nothing: one that would have to wait for a listener has one.
+/// Returns whether no one listens. The connection waits for nothing: one that would have to wait for a listener has
+/// one.
 fn is_refused<R: Net>(rt: &R, path: &str) -> bool {
     match UnixStream::connect(rt, path) {
         Ok(_) => false,
