@@ -1,5 +1,6 @@
 //! The counters of a server, and its open transactions.
 
+use crate::tallies::Tallies;
 use arrayvec::ArrayVec;
 use std::sync::atomic::{AtomicU64, Ordering};
 use std::sync::{Mutex, Wait};
@@ -13,6 +14,8 @@ struct Open {
     session: u32,
     /// The time of its begin, if the clock could be read.
     since: Option<Instant>,
+    /// Whether it was reported as open for long.
+    reported: bool,
 }
 
 /// The constants of a server's run.
@@ -41,6 +44,7 @@ pub struct Meters {
     idle: AtomicU64,
     refused: AtomicU64,
     open: Mutex<ArrayVec<Open, SESSIONS>>,
+    tallies: Tallies,
 }
 
 impl Meters {
@@ -62,6 +66,7 @@ impl Meters {
             idle: AtomicU64::new(0),
             refused: AtomicU64::new(0),
             open: Mutex::new(ArrayVec::new()),
+            tallies: Tallies::new(),
         }
     }
 
@@ -83,11 +88,28 @@ impl Meters {
         add(self.counter(count), many);
     }
 
+    /// So many more of these, of this session.
+    pub fn count_of(&self, session: u32, count: Count, many: u64) {
+        add(self.counter(count), many);
+        self.tallies.count(session, count, many);
+    }
+
+    /// How many bytes were written to the session, and how many items of its outbox were sent.
+    pub fn sent(&self, session: u32) -> (u64, u64) {
+        self.tallies.sent(session)
+    }
+
     /// Counts a server's report, if it has a counter.
     pub fn note(&self, note: Note) {
         match note {
-            Note::Started(_) => add(&self.started, 1),
-            Note::Ended(_) => add(&self.ended, 1),
+            Note::Started(session) => {
+                add(&self.started, 1);
+                self.tallies.join(session);
+            }
+            Note::Ended(session) => {
+                add(&self.ended, 1);
+                self.tallies.leave(session);
+            }
             Note::Idle(_) => add(&self.idle, 1),
             Note::NoSeat => add(&self.refused, 1),
             Note::Overflowed(_, _) => add(&self.overflows, 1),
@@ -134,7 +156,11 @@ impl Meters {
     /// The session has opened a transaction.
     pub fn begin<R: Wait + Clock>(&self, rt: &R, session: u32) {
         let since = Instant::now(rt).ok();
-        let _kept = self.open.lock(rt).try_push(Open { session, since });
+        let _kept = self.open.lock(rt).try_push(Open {
+            session,
+            since,
+            reported: false,
+        });
     }
 
     /// The session's transaction is open no more. Returns how many seconds it was open; 0 if the clock can't be read.
@@ -144,6 +170,34 @@ impl Meters {
         open.retain(|open| open.session != session);
         drop(open);
         seconds(rt, ended)
+    }
+
+    /// How many seconds the session's transaction is open; 0 if it has none.
+    pub fn seconds<R: Wait + Clock>(&self, rt: &R, session: u32) -> u64 {
+        let open = self.open.lock(rt);
+        let found = open.iter().find(|open| open.session == session).copied();
+        drop(open);
+        seconds(rt, found)
+    }
+
+    /// Whether a transaction is open for so many seconds that was not taken as late before.
+    pub fn any_is_late<R: Wait + Clock>(&self, rt: &R, least: u64) -> bool {
+        let open = self.open.lock(rt);
+        open.iter()
+            .any(|open| !open.reported && seconds(rt, Some(*open)) >= least)
+    }
+
+    /// How many seconds the session's transaction is open, if that is so many and it was not taken as late before.
+    pub fn take_late<R: Wait + Clock>(&self, rt: &R, session: u32, least: u64) -> Option<u64> {
+        let mut open = self.open.lock(rt);
+        for open in open.iter_mut() {
+            let age = seconds(rt, Some(*open));
+            if open.session == session && !open.reported && age >= least {
+                open.reported = true;
+                return Some(age);
+            }
+        }
+        None
     }
 
     /// The number of open transactions.

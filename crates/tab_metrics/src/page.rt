@@ -5,7 +5,7 @@ use std::alloc::{AllocError, Global};
 use std::io;
 use std::sync::Wait;
 use std::time::{Clock, Duration};
-use tab_book::Shared;
+use tab_book::{Activity, Shared};
 use tab_post::Host;
 use tab_server::Count;
 use tab_tables::Catalog;
@@ -48,10 +48,13 @@ fn shared_tables<H: Host>(host: &H, shared: &Shared<H>) -> Result<(Catalog, u64)
     Ok((book.tables().share()?, book.journal().len() as u64))
 }
 
-/// A value that has a page of its meters, and a clock.
+/// What has a page of its meters and one of its sessions, and a clock.
 pub trait Paged {
-    /// The page, by what the book holds.
+    /// The page of meters, by what the book holds.
     fn page(&self, holdings: &Holdings) -> Result<String, AllocError>;
+
+    /// The page of sessions, by what they do.
+    fn sessions(&self, activities: &[Activity]) -> Result<String, AllocError>;
 
     /// The time since a start, which stays the same.
     fn now(&self) -> io::Result<Duration>;

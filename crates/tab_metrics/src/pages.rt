@@ -17,7 +17,12 @@ use tab_post::Host;
 /// The most clients that are answered at once.
 const CLIENTS: u64 = 16;
 
-/// Answers `GET /metrics` and `HEAD /metrics`, each client in a thread of its own, until no more are looked for.
+/// The kinds of text of the two pages.
+const METERS: &str = "version=0.0.4";
+
+const SESSIONS: &str = "charset=utf-8";
+
+/// Answers GET and HEAD of `/metrics` and of `/sessions`, each client in a thread of its own, until no more are looked for.
 pub fn serve_pages<H: Host + Threads + Send + Sync, P: Paged + Sync>(
     host: &H,
     alloc: Global,
@@ -77,14 +82,10 @@ fn answer<H: Host, P: Paged>(
         return Ok(());
     };
     let text = match request {
-        Request::Page => {
-            let page = page(host, alloc, shared, paged)?;
-            found(alloc, page.len(), &page)?
-        }
-        Request::Head => {
-            let page = page(host, alloc, shared, paged)?;
-            found(alloc, page.len(), "")?
-        }
+        Request::Page => found(alloc, METERS, &page(host, alloc, shared, paged)?, true)?,
+        Request::Head => found(alloc, METERS, &page(host, alloc, shared, paged)?, false)?,
+        Request::Sessions => found(alloc, SESSIONS, &sessions(host, shared, paged)?, true)?,
+        Request::SessionsHead => found(alloc, SESSIONS, &sessions(host, shared, paged)?, false)?,
         Request::Elsewhere => other(alloc, "404 Not Found")?,
         Request::Otherwise => other(alloc, "405 Method Not Allowed\r\nAllow: GET, HEAD")?,
         Request::Wrong => other(alloc, "400 Bad Request")?,
@@ -103,10 +104,22 @@ fn page<H: Host, P: Paged>(
     paged.page(&Holdings::of(host, alloc, shared)?)
 }
 
-/// The answer to a request for a page of this length, with this much of it.
-fn found(alloc: Global, len: usize, body: &str) -> Result<String, AllocError> {
+/// The book is locked for one pass over the sessions.
+fn sessions<H: Host, P: Paged>(
+    host: &H,
+    shared: &Shared<H>,
+    paged: &P,
+) -> Result<String, AllocError> {
+    let activities = shared.hold(host).activities()?;
+    paged.sessions(&activities)
+}
+
+/// The answer to a request for this page, with the page or without it.
+fn found(alloc: Global, kind: &str, page: &str, is_whole: bool) -> Result<String, AllocError> {
+    let len = page.len();
+    let body = if is_whole { page } else { "" };
     format!(in alloc;
-        "HTTP/1.1 200 OK\r\nContent-Type: text/plain; version=0.0.4\r\nContent-Length: {len}\r\nConnection: close\r\n\r\n{body}"
+        "HTTP/1.1 200 OK\r\nContent-Type: text/plain; {kind}\r\nContent-Length: {len}\r\nConnection: close\r\n\r\n{body}"
     )
 }
 

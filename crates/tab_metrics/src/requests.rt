@@ -2,7 +2,7 @@
 
 ghost use Rattle.std.specs.Prelude.{◌↔◌, IsTrue, MatchOption};
 ghost use Rattle.httparse.specs.Grammar.{HasNoRequest};
-ghost use Rattle.tab_metrics.specs.Heads.{IsAskedIn, NamesPage};
+ghost use Rattle.tab_metrics.specs.Heads.{IsAskedIn, NamesPage, NamesSessions};
 
 use httparse::Status;
 use httparse::spans::{EMPTY_HEADER_SPAN, parse_request};
@@ -18,9 +18,14 @@ const PIECES: usize = 64;
 /// The kind of a request.
 #[derive(Clone, Copy, Debug, PartialEq, Eq)]
 pub enum Request {
+    /// The page of meters.
     Page,
-    /// The page's head without the page.
+    /// Its head without the page.
     Head,
+    /// The page of sessions.
+    Sessions,
+    /// Its head without the page.
+    SessionsHead,
     /// A request for another path.
     Elsewhere,
     /// A request by another method.
@@ -62,12 +67,21 @@ fn request_in(head: &[u8]) -> Option<Request>
         Ok(Status::Partial) => None,
         Ok(Status::Complete(spans)) => {
             let method = spans.method.of(head);
-            Some(if !names_page(spans.path.of(head)) {
+            let target = spans.path.of(head);
+            Some(if names_page(target) {
+                if method == b"GET".as_slice() {
+                    Request::Page
+                } else if method == b"HEAD".as_slice() {
+                    Request::Head
+                } else {
+                    Request::Otherwise
+                }
+            } else if !names_sessions(target) {
                 Request::Elsewhere
             } else if method == b"GET".as_slice() {
-                Request::Page
+                Request::Sessions
             } else if method == b"HEAD".as_slice() {
-                Request::Head
+                Request::SessionsHead
             } else {
                 Request::Otherwise
             })
@@ -76,9 +90,16 @@ fn request_in(head: &[u8]) -> Option<Request>
     }
 }
 
-/// Returns whether a request's target names the page. A query changes nothing.
+/// Whether a request's target names the page of meters. A query changes nothing.
 fn names_page(target: &[u8]) -> bool
     ensures { IsTrue result ↔ NamesPage target.now }
 {
     target == b"/metrics".as_slice() || target.starts_with(b"/metrics?".as_slice())
+}
+
+/// Whether it names the page of sessions.
+fn names_sessions(target: &[u8]) -> bool
+    ensures { IsTrue result ↔ NamesSessions target.now }
+{
+    target == b"/sessions".as_slice() || target.starts_with(b"/sessions?".as_slice())
 }

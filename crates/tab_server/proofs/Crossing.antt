@@ -1,11 +1,30 @@
 -- What a thread of a connection takes with it may go to another thread, or be shared with one.
-use denote.Param.Send.{IsSend, IsSync, sendable}
-use denote.Param.SendFields.{declared_send, as_row_send, declared_sync, as_row_sync}
-use Rattle.std.proofs.Crossing.{crosses}
+use denote.RattleType.{RattleType}
+use denote.Struct.Field.{row_field, u64-field}
+use denote.Hole.{as_row}
+use denote.Param.Send.{IsSend, IsSync, plain_send, sendable}
+use denote.Param.SendFields.{as_row_send, as_row_sync, declared_send, declared_sync, variants_send, variants_sync}
+use Rattle.std.proofs.Crossing.{crosses, Arc-send}
+use Rattle.std.proofs.option.Option.TheSendSync as option_marks
+use Rattle.tab_term.proofs.atom.Atom.TheSendSync as atom_marks
+use Rattle.tab_term.specs.contracts.atom.Atom as atom
+use Rattle.tab_lists.proofs.Crossing.{EventTerms-send, EventTerms-sync, SharedTerms-send, SharedTerms-sync}
+use Rattle.tab_lists.specs.contracts.events.EventTerms as event_terms
+use Rattle.tab_lists.specs.contracts.shared_terms.SharedTerms as shared_terms
+use Rattle.tab_model.proofs.data.Level.TheSendSync as level_marks
+use Rattle.tab_model.proofs.data.Ending.TheSendSync as ending_marks
+use Rattle.tab_model.specs.contracts.data.Item as item
+use Rattle.tab_model.specs.contracts.shared_item.SharedItem as shared_item
+use Rattle.tab_post.proofs.Crossing.{Inbox-send}
+use Rattle.tab_post.specs.declared.naming.Naming as naming
 use Rattle.tab_book.specs.contracts.shared.Seat as seat
 use Rattle.tab_proto.proofs.events.Delivery.TheSendSync as delivery_marks
 use Rattle.tab_server.specs.contracts.connection.Connection as connection
 use Rattle.tab_server.specs.contracts.connection.Streams as streams
+use Rattle.tab_server.specs.contracts.dispatcher.Dispatcher as dispatcher
+use Rattle.tab_server.specs.contracts.line.Line as line
+use Rattle.tab_server.specs.contracts.line.Mail as mail
+use Rattle.tab_server.proofs.line.Turn.TheSendSync as turn_marks
 
 pub seat-send : IsSend seat.the_row
 seat-send = search (sendable, declared_send, as_row_send) depth 20
@@ -16,5 +35,74 @@ seat-sync = search (sendable, declared_sync, as_row_sync) depth 20
 pub streams-send : IsSend streams.the_row
 streams-send = search (sendable, crosses, declared_send, as_row_send, delivery_marks.the_send) depth 20
 
-pub connection-sync : IsSync connection.the_row
-connection-sync = search (sendable, crosses, declared_sync, as_row_sync, delivery_marks.the_sync) depth 20
+-- an item may, since terms may, and those that are shared
+events_field : IsSend (as_row (row_field event_terms.the_row))
+events_field = as_row_send (row_field event_terms.the_row) EventTerms-send
+
+atom_field : IsSend (as_row atom.the_field)
+atom_field = as_row_send atom.the_field atom_marks.the_send
+
+one_item-send : IsSend item.the_row
+one_item-send =
+    variants_send item.enum (
+      (atom_field, (level_marks.the_send, (option_marks.the_send shared_terms.the_row SharedTerms-send, tt))),
+      (
+        (as_row_send u64-field (plain_send _ _ _ _ _), (events_field, tt)),
+        ((atom_field, (ending_marks.the_send, tt)), tt),
+      ),
+    )
+
+one_item-sync : IsSync item.the_row
+one_item-sync = search (sendable, as_row_sync, variants_sync, atom_marks.the_sync, level_marks.the_sync, ending_marks.the_sync, option_marks.the_sync, SharedTerms-sync, EventTerms-sync) depth 20
+
+item-send : IsSend shared_item.the_row
+item-send = search (sendable, Arc-send, declared_send, as_row_send, one_item-send, one_item-sync) depth 20
+
+ruleset simple_send = (sendable, crosses, declared_send, as_row_send)
+
+ruleset simple_sync = (sendable, crosses, declared_sync, as_row_sync)
+
+module _ (H : RattleType) (names : naming.Ghosts H.Denot) where
+  mail-send : IsSend H → IsSend (mail.the_row H names)
+  mail-send h =
+      declared_send (mail.the_type H names) (
+        search (as_row_send, Inbox-send) depth 6,
+        (
+          search simple_send depth 12,
+          (option_marks.the_send shared_item.the_row item-send, (search simple_send, (turn_marks.the_send, (search simple_send, tt)))),
+        ),
+      )
+
+  line-send : IsSend H → IsSend (line.the_row H names)
+  line-send h =
+      declared_send (line.the_type H names) (
+        search simple_send depth 20,
+        (
+          search (simple_send, seat-send) depth 12,
+          (delivery_marks.the_send, (search (crosses, as_row_send, mail-send) depth 12, (search simple_send depth 12, (search simple_send depth 12, tt)))),
+        ),
+      )
+
+  line-sync : IsSend H → IsSync (line.the_row H names)
+  line-sync h =
+      declared_sync (line.the_type H names) (
+        search simple_sync depth 20,
+        (
+          search (simple_sync, seat-sync) depth 12,
+          (delivery_marks.the_sync, (search (crosses, as_row_sync, mail-send) depth 12, (search simple_sync depth 12, (search simple_sync depth 12, tt)))),
+        ),
+      )
+
+  pub dispatcher-sync : IsSend H → IsSync (dispatcher.the_row H names)
+  dispatcher-sync h =
+      declared_sync (dispatcher.the_type H names) (
+        search (crosses, as_row_sync, line-send, line-sync) depth 12,
+        (search simple_sync depth 12, (search simple_sync depth 12, (search simple_sync, (search simple_sync depth 12, (search simple_sync depth 12, tt))))),
+      )
+
+  pub connection-sync : IsSend H → IsSync (connection.the_row H names)
+  connection-sync h =
+      declared_sync (connection.the_type H names) (
+        search (crosses, as_row_sync, line-send, line-sync) depth 12,
+        (search simple_sync depth 20, (search simple_sync, (search simple_sync depth 20, (search simple_sync depth 20, tt)))),
+      )

@@ -1,6 +1,7 @@
 //! Connections are accepted, each with threads of its own.
 
 use crate::connection::{Connection, Streams};
+use crate::dispatcher::Dispatcher;
 use crate::gate::{Gate, Note, Notes};
 use crate::listener::Listener;
 use crate::requests::{Ending, serve_session};
@@ -17,8 +18,8 @@ use tab_post::{Host, Inbox};
 use tab_proto::append_reply;
 use tab_sink::{RequestStream, Senders};
 
-/// Accepts `connections` connections, and serves each until its session has ended. It ends when all have. A failed
-/// accept ends the accepting, and is returned as the error.
+/// Accepts so many connections, or those that come before the gate closes, and serves each until its session has ended. Ends
+/// when all have; with an error if an accept failed, which ends the accepting.
 pub fn serve<H: Host + Threads + Send + Sync, G: Gate + Notes + Sync>(
     host: &H,
     alloc: Global,
@@ -28,10 +29,78 @@ pub fn serve<H: Host + Threads + Send + Sync, G: Gate + Notes + Sync>(
     settings: Settings,
     gate: &G,
 ) -> io::Result<()> {
+    serve_with_dispatcher(
+        host,
+        alloc,
+        listener,
+        shared,
+        Some(connections),
+        settings,
+        gate,
+    )
+}
+
+/// Serves connections until the gate closes, at once as many as the book has room for sessions. One that finds no seat is told
+/// so and closed. Where an accept, a join or a thread is refused it says so, and goes on after a pause.
+pub fn serve_forever<H: Host + Threads + Send + Sync, G: Gate + Notes + Sync>(
+    host: &H,
+    alloc: Global,
+    listener: &Listener,
+    shared: &Shared<H>,
+    settings: Settings,
+    gate: &G,
+) {
+    let _served = serve_with_dispatcher(host, alloc, listener, shared, None, settings, gate);
+}
+
+/// Serves connections, so many or for good, while one thread more sends their events. If that can't be started, each connection
+/// sends its own.
+fn serve_with_dispatcher<H: Host + Threads + Send + Sync, G: Gate + Notes + Sync>(
+    host: &H,
+    alloc: Global,
+    listener: &Listener,
+    shared: &Shared<H>,
+    connections: Option<u32>,
+    settings: Settings,
+    gate: &G,
+) -> io::Result<()> {
+    let dispatcher = &Dispatcher::new(alloc, shared.outbox());
+    thread::scope(thread::scope_env(), host, |scope| {
+        let started = scope.spawn(move || dispatcher.run(host, gate));
+        if started.is_ok() {
+            dispatcher.begin();
+        }
+        let served = match connections {
+            Some(count) => serve_some(
+                host, alloc, listener, shared, count, settings, dispatcher, gate,
+            ),
+            None => {
+                serve_all(host, alloc, listener, shared, settings, dispatcher, gate);
+                Ok(())
+            }
+        };
+        dispatcher.end();
+        served
+    })
+}
+
+fn serve_some<H: Host + Threads + Send + Sync, G: Gate + Notes + Sync>(
+    host: &H,
+    alloc: Global,
+    listener: &Listener,
+    shared: &Shared<H>,
+    connections: u32,
+    settings: Settings,
+    dispatcher: &Dispatcher<H>,
+    gate: &G,
+) -> io::Result<()> {
     let senders = &Senders::new();
     thread::scope(thread::scope_env(), host, |scope| {
         for _ in 0..connections {
-            let accepted = listener.accept()?;
+            let accepted = match listener.accept() {
+                Err(_) if gate.is_closing() => return Ok(()),
+                accepted => accepted?,
+            };
             let Ok(streams) = Streams::of(accepted, settings) else {
                 continue;
             };
@@ -39,7 +108,9 @@ pub fn serve<H: Host + Threads + Send + Sync, G: Gate + Notes + Sync>(
                 continue;
             };
             let started = scope.spawn(move || {
-                serve_connection(host, alloc, shared, &seat, inbox, streams, senders, gate);
+                serve_connection(
+                    host, alloc, shared, &seat, inbox, streams, senders, dispatcher, gate,
+                );
             });
             if started.is_err() {
                 shared.leave(host, &seat);
@@ -49,14 +120,13 @@ pub fn serve<H: Host + Threads + Send + Sync, G: Gate + Notes + Sync>(
     })
 }
 
-/// Serves connections for good, at once as many as the book has room for sessions. One that finds no room is refused
-/// and closed. If an accept, a join or a thread is refused, it reports that, and goes on after a pause.
-pub fn serve_forever<H: Host + Threads + Send + Sync, G: Gate + Notes + Sync>(
+fn serve_all<H: Host + Threads + Send + Sync, G: Gate + Notes + Sync>(
     host: &H,
     alloc: Global,
     listener: &Listener,
     shared: &Shared<H>,
     settings: Settings,
+    dispatcher: &Dispatcher<H>,
     gate: &G,
 ) {
     let mut troubles = Troubles::new(gate);
@@ -64,6 +134,9 @@ pub fn serve_forever<H: Host + Threads + Send + Sync, G: Gate + Notes + Sync>(
     thread::scope(thread::scope_env(), host, |scope| {
         for _ in host.forever() {
             let Ok(streams) = accepted(listener, settings) else {
+                if gate.is_closing() {
+                    return;
+                }
                 troubles.tell(host, Note::NotAccepted);
                 continue;
             };
@@ -80,7 +153,9 @@ pub fn serve_forever<H: Host + Threads + Send + Sync, G: Gate + Notes + Sync>(
                 }
             };
             let started = scope.spawn(move || {
-                serve_connection(host, alloc, shared, &seat, inbox, streams, senders, gate);
+                serve_connection(
+                    host, alloc, shared, &seat, inbox, streams, senders, dispatcher, gate,
+                );
             });
             if started.is_err() {
                 shared.leave(host, &seat);
@@ -98,7 +173,7 @@ fn accepted(listener: &Listener, settings: Settings) -> io::Result<Streams> {
 
 /// Refuses a connection for which there is no room, and closes it.
 fn turn_away(alloc: Global, streams: Streams) {
-    let (_connection, mut stream) = Connection::new(streams);
+    let mut stream = streams.writer();
     let mut frame = Vec::new(alloc);
     if append_reply(None, &Reply::SystemLimit(Limit::Sessions), &mut frame).is_ok() {
         let _told = stream.write_all(&frame);
@@ -114,22 +189,28 @@ fn serve_connection<H: Host + Threads + Send + Sync, G: Gate + Notes + Sync>(
     inbox: Inbox<H>,
     streams: Streams,
     senders: &Senders,
+    dispatcher: &Dispatcher<H>,
     gate: &G,
 ) {
+    let Ok((connection, reader)) = Connection::new(alloc, streams, *seat, inbox) else {
+        shared.leave(host, seat);
+        return;
+    };
+    gate.connected(seat.session(), &connection.stream);
     gate.note(Note::Started(seat.session()));
-    let (connection, reader) = Connection::new(streams);
-    let requests = RequestStream::new(reader, &connection.sink, senders, seat.session());
+    let requests = RequestStream::new(reader, senders, seat.session());
     let ending = serve_streams(
         host,
         alloc,
         shared,
         seat,
-        inbox,
         &connection,
         requests,
+        dispatcher,
         gate,
     );
     shared.leave(host, seat);
+    dispatcher.remove(host, &connection.line);
     if matches!(ending, Ending::Idle) || connection.has_stalled(host) {
         gate.note(Note::Idle(seat.session()));
     }
@@ -143,9 +224,9 @@ fn serve_streams<H: Host + Threads + Send + Sync, G: Gate + Notes + Sync>(
     alloc: Global,
     shared: &Shared<H>,
     seat: &Seat,
-    mut inbox: Inbox<H>,
-    connection: &Connection,
+    connection: &Connection<H>,
     mut requests: RequestStream<'_>,
+    dispatcher: &Dispatcher<H>,
     gate: &G,
 ) -> Ending {
     thread::scope(thread::scope_env(), host, |scope| {
@@ -154,7 +235,7 @@ fn serve_streams<H: Host + Threads + Send + Sync, G: Gate + Notes + Sync>(
             return Ending::Over;
         }
         let sending = scope.spawn(move || {
-            connection.send_events(host, alloc, shared, seat, &mut inbox, gate);
+            connection.send_events(host, alloc, shared, dispatcher, gate);
         });
         if sending.is_err() {
             connection.watch.stop(host);
@@ -165,10 +246,9 @@ fn serve_streams<H: Host + Threads + Send + Sync, G: Gate + Notes + Sync>(
             alloc,
             shared,
             seat,
-            &connection.watch,
-            connection.aborts,
+            connection,
+            dispatcher,
             &mut requests,
-            &connection.sink,
             gate,
         )
     })

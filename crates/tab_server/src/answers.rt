@@ -97,7 +97,7 @@ impl<'a, W: Write, G: Gate> Answers<'a, W, G> {
         let written = send_pieces(rt, self.sink, &mut self.frames, |pieces| {
             write_reply(pieces, None, reply)
         })?;
-        self.gate.count(Count::Written, written);
+        self.gate.count_of(self.session, Count::Written, written);
         Ok(())
     }
 
@@ -108,7 +108,8 @@ impl<'a, W: Write, G: Gate> Answers<'a, W, G> {
     {
         if !self.frames.is_empty() {
             self.sink.send(rt, &self.frames)?;
-            self.gate.count(Count::Written, self.frames.len() as u64);
+            self.gate
+                .count_of(self.session, Count::Written, self.frames.len() as u64);
             empty(&mut self.frames);
         }
         for call in self.written..self.answered {

@@ -1,30 +1,29 @@
 //! What the threads of a connection share.
 
-use crate::events::event_loop;
+use crate::dispatcher::Dispatcher;
 use crate::gate::Notes;
+use crate::line::Line;
 use crate::listener::{Accepted, Family};
 use crate::next::{Next, next_on};
 use crate::settings::Settings;
 use crate::troubles::pause;
 use crate::watch::Watch;
-use std::alloc::Global;
+use std::alloc::{AllocError, Global};
 use std::io;
 use std::net::TcpStream;
-use std::sync::Wait;
+use std::sync::{Arc, Wait};
 use tab_book::{Seat, Shared};
 use tab_post::{Host, Inbox};
 use tab_proto::Delivery;
-use tab_sink::FrameSink;
 
 /// A connection's stream, and what is written to it.
 #[derive(Drop)]
-pub struct Connection {
-    pub sink: FrameSink<TcpStream>,
+pub struct Connection<H: Host> {
+    pub line: Arc<Line<H>, Global>,
     pub watch: Watch,
-    pub delivery: Delivery,
     /// True if an abort ends the wait of the operation before it.
     pub aborts: bool,
-    stream: TcpStream,
+    pub stream: TcpStream,
     family: Family,
 }
 
@@ -57,11 +56,29 @@ impl Streams {
             aborts: settings.aborts,
         })
     }
+
+    /// The stream, to write to it only.
+    pub fn writer(self) -> TcpStream {
+        let Streams {
+            reader: _,
+            writer,
+            stream: _,
+            family: _,
+            delivery: _,
+            aborts: _,
+        } = self;
+        writer
+    }
 }
 
-impl Connection {
-    /// The connection, and the stream that requests are read from.
-    pub fn new(streams: Streams) -> (Connection, TcpStream) {
+impl<H: Host> Connection<H> {
+    /// The session's connection, and the stream that requests are read from.
+    pub fn new(
+        alloc: Global,
+        streams: Streams,
+        seat: Seat,
+        inbox: Inbox<H>,
+    ) -> Result<(Connection<H>, TcpStream), AllocError> {
         let Streams {
             reader,
             writer,
@@ -70,43 +87,38 @@ impl Connection {
             delivery,
             aborts,
         } = streams;
+        let line = Line::new(alloc, writer, seat, inbox, delivery);
         let connection = Connection {
-            sink: FrameSink::new(writer),
+            line: Arc::new(alloc, line)?,
             watch: Watch::new(),
-            delivery,
             aborts,
             stream,
             family,
         };
-        (connection, reader)
+        Ok((connection, reader))
     }
 
-    /// Sends the session's events until it has left, and closes the connection.
-    pub fn send_events<H: Host, N: Notes>(
+    /// Sends the session's events until it has left, as far as the dispatcher doesn't, and closes the connection.
+    pub fn send_events<N: Notes>(
         &self,
         host: &H,
         alloc: Global,
         shared: &Shared<H>,
-        seat: &Seat,
-        inbox: &mut Inbox<H>,
+        dispatcher: &Dispatcher<H>,
         notes: &N,
     ) {
-        event_loop(
-            host,
-            alloc,
-            shared,
-            seat,
-            inbox,
-            &self.sink,
-            self.delivery,
-            notes,
-        );
+        if dispatcher.add(host, &self.line) {
+            dispatcher.ring();
+            self.line.send_turns(host, shared, dispatcher, notes);
+        } else {
+            self.line.send_alone(host, alloc, shared, notes);
+        }
         self.family.close(&self.stream);
     }
 
     /// Watches the stream while a request waits for a lock. At the end of the stream the session leaves, and an abort
     /// ends the wait. If other requests are in the stream, it sees neither, only that the client has broken off.
-    pub fn watch_for<H: Host>(&self, host: &H, alloc: Global, shared: &Shared<H>, seat: &Seat) {
+    pub fn watch_for(&self, host: &H, alloc: Global, shared: &Shared<H>, seat: &Seat) {
         for _ in host.forever() {
             let Some(wait) = self.watch.wanted(host) else {
                 return;
@@ -114,7 +126,7 @@ impl Connection {
             match next_on(alloc, &self.stream, wait.hears) {
                 // An end that comes later, while no request waits, is for the thread that reads.
                 Next::End if self.watch.waits(host, wait) => {
-                    shared.leave(host, seat);
+                    self.leave(host, shared, seat);
                     return;
                 }
                 Next::Abort => {
@@ -125,7 +137,7 @@ impl Connection {
                 }
                 Next::Other | Next::Part if self.has_broken_off() && self.watch.waits(host, wait) =>
                     {
-                        shared.leave(host, seat);
+                        self.leave(host, shared, seat);
                         return;
                     }
                 Next::Other | Next::Part => pause(host),
@@ -135,11 +147,16 @@ impl Connection {
         }
     }
 
+    fn leave(&self, host: &H, shared: &Shared<H>, seat: &Seat) {
+        shared.leave(host, seat);
+        self.line.end(host);
+    }
+
     /// Returns whether the client has read nothing for longer than it may be idle: a write has failed, and the stream
     /// is still open.
     pub fn has_stalled<R: Wait>(&self, rt: &R) -> bool {
         matches!(self.stream.write_timeout(), Ok(Some(_)))
-            && self.sink.is_broken(rt)
+            && self.line.sink.is_broken(rt)
             && !self.has_broken_off()
     }
 

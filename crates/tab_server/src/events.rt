@@ -25,6 +25,7 @@ pub fn event_loop<H: Host, W: Write, N: Notes>(
     delivery: Delivery,
     notes: &N,
 ) {
+    let mut frames = Vec::new(alloc);
     let mut events = Events {
         host,
         shared,
@@ -33,7 +34,7 @@ pub fn event_loop<H: Host, W: Write, N: Notes>(
         sink,
         delivery,
         notes,
-        frames: Vec::new(alloc),
+        frames: &mut frames,
     };
     for _ in host.forever() {
         let Some(item) = events.inbox.receive() else {
@@ -47,7 +48,7 @@ pub fn event_loop<H: Host, W: Write, N: Notes>(
 
 /// Returns whether an item is longer than the bytes that are kept before they are sent. Only an item with records or
 /// events can be long.
-fn is_long(item: &Item) -> bool {
+pub fn is_long(item: &Item) -> bool {
     let mut len = 0;
     match item {
         Item::Began(_, _, Some(terms)) => { terms.iter().any(|term| reaches(&mut len, term)) }
@@ -63,15 +64,15 @@ fn is_long(item: &Item) -> bool {
 
 /// The events of a session on their way to its connection.
 #[derive(Drop)]
-struct Events<'a, H: Host, W: Write, N: Notes> {
-    host: &'a H,
-    shared: &'a Shared<H>,
-    seat: &'a Seat,
-    inbox: &'a mut Inbox<H>,
-    sink: &'a FrameSink<W>,
-    delivery: Delivery,
-    notes: &'a N,
-    frames: Vec<u8>,
+pub struct Events<'a, H: Host, W: Write, N: Notes> {
+    pub host: &'a H,
+    pub shared: &'a Shared<H>,
+    pub seat: &'a Seat,
+    pub inbox: &'a mut Inbox<H>,
+    pub sink: &'a FrameSink<W>,
+    pub delivery: Delivery,
+    pub notes: &'a N,
+    pub frames: &'a mut Vec<u8>,
 }
 
 impl<'a, H: Host, W: Write, N: Notes> Events<'a, H, W, N> {
@@ -80,7 +81,14 @@ impl<'a, H: Host, W: Write, N: Notes> Events<'a, H, W, N> {
     /// nothing was refused, and the book need not be asked.
     fn send_from(&mut self, first: &Item) -> Result<(), Unwritten> {
         self.keep(first)?;
-        let mut count: usize = 1;
+        self.send_waiting(1)
+    }
+
+    /// Sends what is kept and all that is there, after so many items that were taken since the inbox was found empty. A post
+    /// refuses only where its mailbox is full, and what that held is received then before the inbox is found empty: where fewer
+    /// items came than it may hold, nothing was refused, and the book need not be asked.
+    pub fn send_waiting(&mut self, taken: usize) -> Result<(), Unwritten> {
+        let mut count = taken;
         for _ in self.host.forever() {
             let Some(item) = self.inbox.try_receive() else {
                 break;
@@ -102,7 +110,7 @@ impl<'a, H: Host, W: Write, N: Notes> Events<'a, H, W, N> {
                 Drained::Overflow(number) => {
                     self.notes
                         .note(Note::Overflowed(self.seat.session(), number));
-                    append_overflow(number, &mut self.frames)?;
+                    append_overflow(number, self.frames)?;
                 }
                 Drained::AllTaken | Drained::Left => return Ok(()),
             }
@@ -111,13 +119,13 @@ impl<'a, H: Host, W: Write, N: Notes> Events<'a, H, W, N> {
     }
 
     /// Keeps an item, until some are sent at once.
-    fn keep(&mut self, item: &Item) -> Result<(), Unwritten> {
+    pub fn keep(&mut self, item: &Item) -> Result<(), Unwritten> {
         if is_long(item) {
             self.send_long(item)?;
         } else {
-            append_item(item, self.delivery, &mut self.frames)?;
+            append_item(item, self.delivery, self.frames)?;
         }
-        self.notes.count(Count::Items, 1);
+        self.notes.count_of(self.seat.session(), Count::Items, 1);
         if self.frames.len() >= KEPT {
             self.send()?;
         }
@@ -127,18 +135,21 @@ impl<'a, H: Host, W: Write, N: Notes> Events<'a, H, W, N> {
     /// Sends an item after those that are kept, piece by piece.
     fn send_long(&mut self, item: &Item) -> Result<(), Unwritten> {
         let delivery = self.delivery;
-        let written = send_pieces(self.host, self.sink, &mut self.frames, |pieces| {
+        let written = send_pieces(self.host, self.sink, self.frames, |pieces| {
             write_item(pieces, item, delivery)
         })?;
-        self.notes.count(Count::Written, written);
+        self.notes
+            .count_of(self.seat.session(), Count::Written, written);
         Ok(())
     }
 
     /// Sends what is kept.
     fn send(&mut self) -> Result<(), Unwritten> {
-        self.sink.send(self.host, &self.frames)?;
-        self.notes.count(Count::Written, self.frames.len() as u64);
-        empty(&mut self.frames);
+        self.sink.send(self.host, self.frames)?;
+        let written = self.frames.len() as u64;
+        self.notes
+            .count_of(self.seat.session(), Count::Written, written);
+        empty(self.frames);
         Ok(())
     }
 }

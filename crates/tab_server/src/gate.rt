@@ -1,6 +1,7 @@
 //! The reports of a server about its calls and sessions.
 
 use std::io;
+use std::net::TcpStream;
 
 /// A report of a server while it runs.
 #[derive(Clone, Copy, Debug, PartialEq, Eq)]
@@ -47,6 +48,9 @@ pub trait Counts {
     /// Counts `many` more of these.
     fn count(&self, count: Count, many: u64);
 
+    /// So many more of these, of this session: of what it was sent.
+    fn count_of(&self, session: u32, count: Count, many: u64);
+
     /// The session has opened a transaction.
     fn begin(&self, session: u32);
 
@@ -68,6 +72,12 @@ pub trait Gate: Counts {
 pub trait Notes: Counts {
     fn note(&self, note: Note);
 
+    /// The session that has started is served on this connection, until it has left.
+    fn connected(&self, session: u32, stream: &TcpStream);
+
+    /// Whether no more connections are accepted.
+    fn is_closing(&self) -> bool;
+
     /// Reports the reason of the server's end.
     fn fault(&self, error: &io::Error);
 }
@@ -78,6 +88,8 @@ pub struct Open;
 
 impl Counts for Open {
     fn count(&self, _count: Count, _many: u64) {}
+
+    fn count_of(&self, _session: u32, _count: Count, _many: u64) {}
 
     fn begin(&self, _session: u32) {}
 
@@ -92,6 +104,12 @@ impl Gate for Open {
 
 impl Notes for Open {
     fn note(&self, _note: Note) {}
+
+    fn connected(&self, _session: u32, _stream: &TcpStream) {}
+
+    fn is_closing(&self) -> bool {
+        false
+    }
 
     fn fault(&self, _error: &io::Error) {}
 }

@@ -31,6 +31,15 @@ pub struct Accepted {
 }
 
 impl Listener {
+    /// What ends the accepting, once it is shut down for reading. An error if no descriptor is left for it.
+    pub fn door(&self) -> io::Result<TcpStream> {
+        let descriptor = match self {
+            Listener::Tcp(listener) => OwnedFd::from(listener.try_clone()?),
+            Listener::Unix(listener) => OwnedFd::from(listener.try_clone()?),
+        };
+        Ok(TcpStream::from(descriptor))
+    }
+
     /// Waits for a client. Returns an error if the system gives none, for example if no descriptor is left.
     pub fn accept(&self) -> io::Result<Accepted> {
         match self {

@@ -1,21 +1,26 @@
 //! The requests of one connection.
 
-ghost use Rattle.std.specs.Prelude.{◌≤◌, length};
+ghost use Rattle.std.specs.Prelude.{◌≡◌, ◌≤◌, MatchOption, length};
+ghost use Rattle.tab_server.specs.Serving.{IsPayloadReply, IsEnded};
 
 use crate::answers::{Answers, Unwritten};
+use crate::connection::Connection;
+use crate::dispatcher::Dispatcher;
 use crate::gate::{Count, Gate};
+use crate::line::Line;
 use crate::place::Place;
+use crate::puts::Puts;
 use crate::steps::Behind;
 use crate::transactions::Transactions;
 use crate::watch::Watch;
 use std::alloc::Global;
-use std::io::{ErrorKind, Read, Write};
+use std::io::{ErrorKind, Read};
+use std::net::TcpStream;
 use tab_book::{Held, Seat, Shared};
 use tab_etf::{EtfFault, Frame, FrameFault, Splitter, decode};
 use tab_model::{Command, Reply, SharedReply};
 use tab_post::Host;
 use tab_proto::{ProtoFault, read_command};
-use tab_sink::FrameSink;
 use tab_term::{Term, Terms};
 
 /// The largest piece that is read at once.
@@ -25,15 +30,19 @@ const PIECE: usize = 65_536;
 /// step until it waits, backs off or is answered. Before it waits or backs off, the answers are written. If the wait is
 /// longer than one sleep the stream is watched.
 #[derive(Drop)]
-pub struct Requests<'a, H: Host, W: Write, G: Gate> {
+pub struct Requests<'a, H: Host, G: Gate> {
     pub alloc: Global,
     pub host: &'a H,
     pub shared: &'a Shared<H>,
     pub seat: Seat,
     pub watch: &'a Watch,
-    pub answers: Answers<'a, W, G>,
+    /// Where the session's events are sent, and by which thread.
+    pub line: &'a Line<H>,
+    pub dispatcher: &'a Dispatcher<H>,
+    pub answers: Answers<'a, TcpStream, G>,
     pub held: Held<'a, H>,
     pub transactions: Transactions,
+    pub puts: Puts,
     /// The position of the stream, and whether the frame there is skipped.
     pub place: Place,
     pub skips: bool,
@@ -56,15 +65,14 @@ pub enum Ending {
 /// Answers the requests of a session in order. Then the session leaves. It stops if the stream ends, a read or a write
 /// fails, or a frame is too long. It also stops if there is no memory for a reply's frame, or a read takes too long
 /// while the transaction is open.
-pub fn serve_session<H: Host, R: Read, W: Write, G: Gate>(
+pub fn serve_session<H: Host, R: Read, G: Gate>(
     host: &H,
     alloc: Global,
     shared: &Shared<H>,
     seat: &Seat,
-    watch: &Watch,
-    aborts: bool,
+    connection: &Connection<H>,
+    dispatcher: &Dispatcher<H>,
     reader: &mut R,
-    sink: &FrameSink<W>,
     gate: &G,
 ) -> Ending {
     let mut requests = Requests {
@@ -72,23 +80,26 @@ pub fn serve_session<H: Host, R: Read, W: Write, G: Gate>(
         host,
         shared,
         seat: *seat,
-        watch,
-        answers: Answers::new(alloc, sink, gate, seat.session()),
+        watch: &connection.watch,
+        line: &connection.line,
+        dispatcher,
+        answers: Answers::new(alloc, &connection.line.sink, gate, seat.session()),
         held: Held::new(host, shared),
         transactions: Transactions::new(seat.session()),
+        puts: Puts::new(),
         place: Place::new(),
         skips: false,
-        aborts,
+        aborts: connection.aborts,
         behind: Behind::Nothing,
         aborted: false,
     };
     let ending = requests.all(reader);
     requests.leave();
-    watch.stop(host);
+    connection.watch.stop(host);
     ending
 }
 
-impl<'a, H: Host, W: Write, G: Gate> Requests<'a, H, W, G> {
+impl<'a, H: Host, G: Gate> Requests<'a, H, G> {
     /// Serves all requests, after which no transaction is open.
     fn all<R: Read>(&mut self, reader: &mut R) -> Ending {
         match self.stream(reader) {
@@ -99,8 +110,9 @@ impl<'a, H: Host, W: Write, G: Gate> Requests<'a, H, W, G> {
 
     /// The session leaves, and its transaction ends.
     fn leave(&mut self) {
-        self.held.give_back();
+        self.give_back();
         let left = self.shared.leave(self.host, &self.seat);
+        self.line.end(self.host);
         self.transactions.step(left);
         self.transactions.count(self.answers.counts());
     }
@@ -226,7 +238,11 @@ impl<'a, H: Host, W: Write, G: Gate> Requests<'a, H, W, G> {
     }
 
     /// Replies to a payload. `next` is the frame after it, if it has come. Returns None if an abort has ended its wait.
-    fn payload(&mut self, payload: &[u8], next: Option<&Frame>) -> Option<SharedReply> {
+    fn payload(&mut self, payload: &[u8], next: Option<&Frame>) -> Option<SharedReply>
+        ensures reply { MatchOption result (IsEnded self.old.seat payload.now)
+            (λ r. IsPayloadReply self.old.seat payload.now r) }
+        ensures seat { self.new.seat ≡ self.old.seat }
+    {
         let held = match decode(self.alloc, payload) {
             Ok(held) => held,
             Err(EtfFault::At(_, _)) => return Some(SharedReply::new(Reply::BadTerm)),

@@ -1,15 +1,18 @@
 //! The commands of a connection's requests, as steps of its session.
 
-ghost use Rattle.std.specs.Prelude.{◌≡◌, ◌≢◌, IfSome, IsOk, IsTrue};
+ghost use Rattle.std.specs.Prelude.{◌≡◌, ◌≢◌, IfOk, IfSome, IsOk, IsTrue, MatchOption};
+ghost use Rattle.tab_model.specs.declared.ask.Ask.TheVariants.{Retry, Do as DoCommand};
 ghost use Rattle.tab_model.specs.declared.data.Reply.TheVariants as reply;
 ghost use Rattle.tab_model.specs.Outcome.{is_abort};
+ghost use Rattle.tab_oneshot.specs.OneShots.{is_one_shot as is_one_shot_command};
+ghost use Rattle.tab_book.specs.Replies.{IsAnswer, IsReply};
+ghost use Rattle.tab_server.specs.Serving.{IsServed, IsSettled};
 
 use crate::gate::{Count, Gate};
 use crate::next::is_abort_in;
 use crate::requests::Requests;
 use crate::troubles::pause;
 use std::alloc::{AllocError, Global};
-use std::io::Write;
 use tab_book::{Answered, Rest, Step};
 use tab_etf::Frame;
 use tab_model::{Command, Reply, SharedReply};
@@ -34,9 +37,20 @@ pub enum Behind {
     Abort,
 }
 
-impl<'a, H: Host, W: Write, G: Gate> Requests<'a, H, W, G> {
+/// Returns whether a command is a one-shot.
+fn is_one_shot(command: &Command) -> bool
+    ensures { result ≡ is_one_shot_command command.now }
+{
+    matches!(command, Command::OneShot(..))
+}
+
+impl<'a, H: Host, G: Gate> Requests<'a, H, G> {
     /// Replies to a command. `next` is the frame after it, if it has come. Returns None if an abort has ended its wait.
-    pub fn command(&mut self, command: Command, next: Option<&Frame>) -> Option<SharedReply> {
+    pub fn command(&mut self, command: Command, next: Option<&Frame>) -> Option<SharedReply>
+        ensures served { MatchOption result (IsServed self.old.seat command reply.Waiting)
+            (λ r. IsServed self.old.seat command r) }
+        ensures seat { self.new.seat ≡ self.old.seat }
+    {
         self.behind = self.end_of_wait(next);
         self.aborted = false;
         let told = self.answer(command);
@@ -49,8 +63,11 @@ impl<'a, H: Host, W: Write, G: Gate> Requests<'a, H, W, G> {
 
     /// Answers a command. A one-shot is run by its driver; any other command is one step, whose answer it waits for. A
     /// session that is restarted backs off first.
-    fn answer(&mut self, command: Command) -> SharedReply {
-        if matches!(command, Command::OneShot(..)) {
+    fn answer(&mut self, command: Command) -> SharedReply
+        ensures served { IsServed self.old.seat command result }
+        ensures seat { self.new.seat ≡ self.old.seat }
+    {
+        if is_one_shot(&command) {
             let alloc = self.alloc;
             let told = one_shot(self, alloc, command);
             self.count_end(told.reply());
@@ -59,21 +76,32 @@ impl<'a, H: Host, W: Write, G: Gate> Requests<'a, H, W, G> {
         let Ok(told) = self.make(command) else {
             return SharedReply::new(Reply::NoMemory);
         };
-        let told = match told.reply() {
-            Reply::Waiting => self.wait().unwrap_or(Ok(told)),
-            _ => Ok(told),
-        };
-        let Ok(told) = told else {
-            return SharedReply::new(Reply::NoMemory);
-        };
+        let told = self.settled(told);
         if matches!(told.reply(), Reply::Restart) {
             self.restarted(NAPS);
         }
         told
     }
 
+    /// The reply to a command whose step has this one: that of its wait, if it has to wait and no abort ends that.
+    fn settled(&mut self, told: SharedReply) -> SharedReply
+        ensures reply { IsSettled self.old.seat told result }
+        ensures seat { self.new.seat ≡ self.old.seat }
+    {
+        if !matches!(told.reply(), Reply::Waiting) {
+            return told;
+        }
+        match self.wait() {
+            None => told,
+            Some(Ok(reply)) => reply,
+            Some(Err(_)) => SharedReply::new(Reply::NoMemory),
+        }
+    }
+
     /// Counts a restart, and backs off for at most `naps` sleeps.
-    fn restarted(&mut self, naps: u32) {
+    fn restarted(&mut self, naps: u32)
+        ensures { self.new.seat ≡ self.old.seat }
+    {
         self.answers.counts().count(Count::Restarts, 1);
         self.rest(naps);
     }
@@ -86,23 +114,36 @@ impl<'a, H: Host, W: Write, G: Gate> Requests<'a, H, W, G> {
         }
     }
 
-    /// The book is given back, and what the steps under its hold did is counted.
-    pub fn give_back(&mut self) {
+    /// Unlocks the book, and counts what the steps since it was locked did. The events that they may have put are sent
+    /// from here on.
+    pub fn give_back(&mut self)
+        ensures { self.new.seat ≡ self.old.seat }
+    {
         self.held.give_back();
+        if self.puts.take() {
+            self.dispatcher.ring();
+        }
         self.transactions.count(self.answers.counts());
     }
 
     /// Makes one step of the session; the book stays locked.
     pub fn make(&mut self, command: Command) -> Result<SharedReply, AllocError>
-        ensures { IsTrue (is_abort command) → IsOk result }
+        ensures abort { IsTrue (is_abort command) → IsOk result }
+        ensures reply { IfOk result (λ r. IsReply self.old.seat (DoCommand command) r) }
+        ensures seat { self.new.seat ≡ self.old.seat }
     {
+        if matches!(command, Command::Subscribe(..)) {
+            self.dispatcher.watch(self.line);
+        }
+        self.puts.ask(&command);
         let answered = self.held.step(&self.seat, Step::Do(command))?;
         Ok(self.reply_to(answered))
     }
 
     /// The reply to a step, whose transaction is to be counted.
     fn reply_to(&mut self, answered: Answered) -> SharedReply
-        ensures { result ≡ answered.told }
+        ensures reply { result ≡ answered.told }
+        ensures seat { self.new.seat ≡ self.old.seat }
     {
         let Answered {
             told,
@@ -110,6 +151,7 @@ impl<'a, H: Host, W: Write, G: Gate> Requests<'a, H, W, G> {
             transaction,
         } = answered;
         self.transactions.step(transaction);
+        self.puts.step(transaction);
         told
     }
 
@@ -123,7 +165,9 @@ impl<'a, H: Host, W: Write, G: Gate> Requests<'a, H, W, G> {
     }
 
     /// Backs off after a restart until the session's lock is free. The stream is watched after the first sleep.
-    fn rest(&mut self, naps: u32) {
+    fn rest(&mut self, naps: u32)
+        ensures { self.new.seat ≡ self.old.seat }
+    {
         if matches!(self.held.rest(&self.seat), Rest::Over | Rest::Free) {
             return;
         }
@@ -142,7 +186,8 @@ impl<'a, H: Host, W: Write, G: Gate> Requests<'a, H, W, G> {
     /// the request is still in the queue, and a connection has no reply for that. So it waits on, and asks again after
     /// a pause.
     fn granted(&self) -> Option<Answered>
-        ensures { IfSome result (λ a. a.told ≢ reply.Waiting) }
+        ensures over { IfSome result (λ a. a.told ≢ reply.Waiting) }
+        ensures answer { IfSome result (λ a. IsAnswer self.now.seat Retry a) }
     {
         let aborted = self.watch.aborted();
         for _ in self.host.forever() {
@@ -155,12 +200,14 @@ impl<'a, H: Host, W: Write, G: Gate> Requests<'a, H, W, G> {
     }
 }
 
-impl<'a, H: Host, W: Write, G: Gate> Steps for Requests<'a, H, W, G> {
-    ghost shows = { λ x calls y. Unit {0} };
+impl<'a, H: Host, G: Gate> Steps for Requests<'a, H, G> {
+    ghost use Rattle.tab_server.specs.Serving.{Serves, serves_none, serves_on};
 
-    ghost shows_none = { λ x. tt };
+    ghost shows = { λ x calls y. Serves x.seat calls y.seat };
 
-    ghost shows_on = { λ x y z first more a b. tt };
+    ghost shows_none = { λ x. serves_none x.seat };
+
+    ghost shows_on = { λ x y z first more. serves_on x.seat y.seat z.seat first more };
 
     fn step(&mut self, command: Command) -> Result<SharedReply, AllocError> {
         self.make(command)

@@ -65,6 +65,8 @@ fn wait_for<R: Threads + Clock>(rt: &R, flag: &AtomicBool, turns: u32) -> bool {
 impl<R: Threads + Clock> Counts for Held<R> {
     fn count(&self, _count: Count, _many: u64) {}
 
+    fn count_of(&self, _session: u32, _count: Count, _many: u64) {}
+
     fn begin(&self, _session: u32) {}
 
     fn end(&self, _session: u32) {}
@@ -87,6 +89,12 @@ impl<R: Threads + Clock> Gate for Held<R> {
 impl<R: Threads + Clock> Notes for Held<R> {
     fn note(&self, _note: Note) {}
 
+    fn connected(&self, _session: u32, _stream: &TcpStream) {}
+
+    fn is_closing(&self) -> bool {
+        false
+    }
+
     fn fault(&self, _error: &io::Error) {}
 }
 
@@ -99,6 +107,8 @@ struct InTurn<R> {
 
 impl<R: Threads + Clock> Counts for InTurn<R> {
     fn count(&self, _count: Count, _many: u64) {}
+
+    fn count_of(&self, _session: u32, _count: Count, _many: u64) {}
 
     fn begin(&self, _session: u32) {}
 
@@ -123,6 +133,12 @@ impl<R: Threads + Clock> Gate for InTurn<R> {
 
 impl<R: Threads + Clock> Notes for InTurn<R> {
     fn note(&self, _note: Note) {}
+
+    fn connected(&self, _session: u32, _stream: &TcpStream) {}
+
+    fn is_closing(&self) -> bool {
+        false
+    }
 
     fn fault(&self, _error: &io::Error) {}
 }

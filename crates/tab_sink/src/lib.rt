@@ -2,70 +2,222 @@
 
 #![tactic(auto)]
 
+mod device;
 pub mod kept;
 pub mod pieces;
+mod rest;
 mod stream;
 
-ghost use Rattle.std.specs.Prelude.{◌≡◌, ◌+◌, ℕ, Bool, IsTrue, IsFalse, min, take, OnOk, OnErr, IsErr};
+ghost use Rattle.std.specs.Prelude.{◌≡◌, ◌+◌, ◌++◌, [], ◌⊎◌, ℕ, Bool, List, IsTrue, IsFalse, min, take, OnOk, OnErr, IfOk, IsErr};
 ghost use Rattle.std.specs.Io.KnownBytes.{Appends};
+ghost use Rattle.tab_sink.specs.Rests.{rest_of, Sends};
 
+use crate::kept::empty;
+pub use device::{Device, WriteNow};
+pub use rest::Rest;
 use std::io::Write;
+use std::mem;
 use std::sync::{Mutex, MutexGuard, Wait};
 pub use stream::{RequestStream, Senders};
-use tab_etf::{Broken, Counted, give_all};
+use tab_etf::{Broken, give_all};
 
-/// A device that frames are written to, until it fails.
+/// A device that frames are written to, until it fails. What a write without a wait has left is written before all else.
 #[derive(Drop)]
 pub struct Sink<W> {
-    device: Counted<W>,
+    device: Device<W>,
+    rest: Option<Rest>,
     broken: bool,
 }
 
 impl<W: Write> Sink<W> {
     /// A device that has not failed.
     pub fn new(writer: W) -> Sink<W>
-        ensures { (IsFalse result.broken) × (result.device.inner ≡ writer)
+        ensures fresh { (IsFalse result.broken) × (result.device.inner ≡ writer)
             × (result.device.faults ≡ 0) }
+        ensures rest { rest_of result.rest ≡ [] }
     {
         Sink {
-            device: Counted::new(writer),
+            device: Device::new(writer),
+            rest: None,
             broken: false,
         }
     }
 
-    /// Writes frames, or the next piece of one. Once a write has failed nothing is written any more: of the bytes in which it
-    /// failed a beginning is.
+    /// Writes what is left, and then frames, or the next piece of one. Once a write has failed nothing is written any more: of
+    /// the bytes in which it failed a beginning is.
     pub fn put(&mut self, frames: &[u8]) -> Result<(), Broken>
         ensures ok { OnOk result
-            ((IsFalse self.old.broken) × (IsFalse self.new.broken)
+            ((IsFalse self.old.broken) × (IsFalse self.new.broken) × (rest_of self.new.rest ≡ [])
             × Appends (W.contents self.old.device.inner)
-            (W.contents self.new.device.inner) frames.now) }
+            (W.contents self.new.device.inner) (rest_of self.old.rest ++ frames.now)) }
         ensures same { OnOk result (self.new.device.faults ≡ self.old.device.faults) }
         ensures first { IsFalse self.old.broken
             → OnErr result
             ((IsTrue self.new.broken)
             × (self.new.device.faults ≡ min (self.old.device.faults + 1) u64.MAX)
             × ((n : ℕ) × Appends (W.contents self.old.device.inner)
-            (W.contents self.new.device.inner) (take n frames.now))) }
+            (W.contents self.new.device.inner) (take n (rest_of self.old.rest ++ frames.now)))) }
         ensures later { IsTrue self.old.broken → IsErr result × (self.new ≡ self.old) }
     {
         if self.broken {
             return Err(Broken);
         }
+        self.put_rest()?;
+        self.put_frames(frames)
+    }
+
+    /// Writes frames, after what was left.
+    fn put_frames(&mut self, frames: &[u8]) -> Result<(), Broken>
+        ensures ok { OnOk result
+            ((IsFalse self.new.broken) × (self.new.rest ≡ self.old.rest)
+            × Appends (W.contents self.old.device.inner)
+            (W.contents self.new.device.inner) frames.now) }
+        ensures same { OnOk result (self.new.device.faults ≡ self.old.device.faults) }
+        ensures first { OnErr result
+            ((IsTrue self.new.broken)
+            × (self.new.device.faults ≡ min (self.old.device.faults + 1) u64.MAX)
+            × ((n : ℕ) × Appends (W.contents self.old.device.inner)
+            (W.contents self.new.device.inner) (take n frames.now))) }
+    {
         let put = give_all(&mut self.device, frames);
         self.broken = put.is_err();
         put
     }
+
+    /// Writes what is left.
+    fn put_rest(&mut self) -> Result<(), Broken>
+        ensures ok { OnOk result
+            ((self.new.broken ≡ self.old.broken) × (rest_of self.new.rest ≡ [])
+            × Appends (W.contents self.old.device.inner)
+            (W.contents self.new.device.inner) (rest_of self.old.rest)) }
+        ensures same { OnOk result (self.new.device.faults ≡ self.old.device.faults) }
+        ensures first { OnErr result
+            ((IsTrue self.new.broken)
+            × (self.new.device.faults ≡ min (self.old.device.faults + 1) u64.MAX)
+            × ((n : ℕ) × Appends (W.contents self.old.device.inner)
+            (W.contents self.new.device.inner) (take n (rest_of self.old.rest)))) }
+    {
+        let Some(rest) = self.rest.take() else {
+            return Ok(());
+        };
+        let put = give_all(&mut self.device, &rest.frames[rest.from..]);
+        self.broken |= put.is_err();
+        put
+    }
 }
 
-/// A sink that two threads share.
+impl<W: WriteNow> Sink<W> {
+    /// Writes what is left, and then frames, as much as is taken without a wait. True if all is written. Of frames that are begun
+    /// the sink keeps what is left; frames that are not begun stay.
+    pub fn put_now(&mut self, frames: &mut Vec<u8>) -> Result<bool, Broken>
+        ensures ok { OnOk result
+            ((IsFalse self.old.broken) × (IsFalse self.new.broken)
+            × Sends (W.contents self.old.device.inner)
+            (rest_of self.old.rest ++ frames.old.items)
+            (W.contents self.new.device.inner)
+            (rest_of self.new.rest ++ frames.new.items)) }
+        ensures whole { OnOk result
+            ((frames.new.items ≡ frames.old.items) ⊎ (frames.new.items ≡ [])) }
+        ensures all { IfOk result (λ all. IsTrue all
+            → (rest_of self.new.rest ≡ []) × (frames.new.items ≡ [])) }
+        ensures same { OnOk result (self.new.device.faults ≡ self.old.device.faults) }
+        ensures first { IsFalse self.old.broken
+            → OnErr result
+            ((IsTrue self.new.broken)
+            × (self.new.device.faults ≡ min (self.old.device.faults + 1) u64.MAX)
+            × ((left : List ℕ) × Sends (W.contents self.old.device.inner)
+            (rest_of self.old.rest ++ frames.old.items)
+            (W.contents self.new.device.inner) left)) }
+        ensures later { IsTrue self.old.broken → IsErr result × (self.new ≡ self.old) }
+    {
+        if self.broken {
+            return Err(Broken);
+        }
+        if !self.put_rest_now()? {
+            return Ok(false);
+        }
+        self.put_frames_now(frames)
+    }
+
+    /// Writes what is left, as much as is taken without a wait. True if all is written.
+    fn put_rest_now(&mut self) -> Result<bool, Broken>
+        ensures ok { OnOk result
+            ((self.new.broken ≡ self.old.broken)
+            × Sends (W.contents self.old.device.inner) (rest_of self.old.rest)
+            (W.contents self.new.device.inner) (rest_of self.new.rest)) }
+        ensures all { IfOk result (λ all. IsTrue all → rest_of self.new.rest ≡ []) }
+        ensures same { OnOk result (self.new.device.faults ≡ self.old.device.faults) }
+        ensures first { OnErr result
+            ((IsTrue self.new.broken)
+            × (self.new.device.faults ≡ min (self.old.device.faults + 1) u64.MAX)
+            × ((left : List ℕ) × Sends (W.contents self.old.device.inner)
+            (rest_of self.old.rest) (W.contents self.new.device.inner) left)) }
+    {
+        let Some(rest) = self.rest.take() else {
+            return Ok(true);
+        };
+        let Rest { frames, from } = rest;
+        let count = match self.device.give_now(&frames[from..]) {
+            Ok(count) => count,
+            Err(fault) => {
+                self.broken = true;
+                return Err(fault);
+            }
+        };
+        if count == frames.len() - from {
+            return Ok(true);
+        }
+        self.rest = Some(Rest {
+            frames,
+            from: from + count,
+        });
+        Ok(false)
+    }
+
+    /// Writes frames, of which nothing is begun, as much as is taken without a wait. Nothing is left of others.
+    fn put_frames_now(&mut self, frames: &mut Vec<u8>) -> Result<bool, Broken>
+        requires { rest_of self.old.rest ≡ [] }
+        ensures ok { OnOk result
+            ((self.new.broken ≡ self.old.broken)
+            × Sends (W.contents self.old.device.inner) frames.old.items
+            (W.contents self.new.device.inner) (rest_of self.new.rest)) }
+        ensures none { OnOk result (frames.new.items ≡ []) }
+        ensures all { IfOk result (λ all. IsTrue all → rest_of self.new.rest ≡ []) }
+        ensures same { OnOk result (self.new.device.faults ≡ self.old.device.faults) }
+        ensures first { OnErr result
+            ((IsTrue self.new.broken)
+            × (self.new.device.faults ≡ min (self.old.device.faults + 1) u64.MAX)
+            × ((left : List ℕ) × Sends (W.contents self.old.device.inner)
+            frames.old.items (W.contents self.new.device.inner) left)) }
+    {
+        let count = match self.device.give_now(frames) {
+            Ok(count) => count,
+            Err(fault) => {
+                self.broken = true;
+                return Err(fault);
+            }
+        };
+        if count == frames.len() {
+            empty(frames);
+            return Ok(true);
+        }
+        let begun = mem::replace(frames, Vec::new(*frames.allocator()));
+        self.rest = Some(Rest {
+            frames: begun,
+            from: count,
+        });
+        Ok(false)
+    }
+}
+
+/// A sink that threads share.
 #[derive(Drop)]
 pub struct FrameSink<W> {
     sink: Mutex<Sink<W>>,
 }
 
 impl<W: Write> FrameSink<W> {
-    /// A device that has not failed, for two threads.
+    /// A device that has not failed, for several threads.
     pub fn new(writer: W) -> FrameSink<W> {
         FrameSink {
             sink: Mutex::new(Sink::new(writer)),
@@ -77,11 +229,6 @@ impl<W: Write> FrameSink<W> {
         self.sink.lock(rt)
     }
 
-    /// Locks the sink, if no one holds it.
-    pub fn try_hold(&self) -> Option<MutexGuard<'_, Sink<W>>> {
-        self.sink.try_lock()
-    }
-
     /// Writes whole frames, which no other's come between.
     pub fn send<R: Wait>(&self, rt: &R, frames: &[u8]) -> Result<(), Broken> {
         self.sink.lock(rt).put(frames)
@@ -90,5 +237,15 @@ impl<W: Write> FrameSink<W> {
     /// Returns whether a write has failed.
     pub fn is_broken<R: Wait>(&self, rt: &R) -> bool {
         self.sink.lock(rt).broken
+    }
+}
+
+impl<W: WriteNow> FrameSink<W> {
+    /// Writes whole frames without a wait. True if all is written. If it isn't, and frames are empty, the sink keeps what is left.
+    pub fn try_send(&self, frames: &mut Vec<u8>) -> Result<bool, Broken> {
+        match self.sink.try_lock() {
+            Some(mut sink) => sink.put_now(frames),
+            None => Ok(false),
+        }
     }
 }

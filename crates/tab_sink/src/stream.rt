@@ -3,10 +3,11 @@
 ghost use Rattle.std.specs.Prelude.{IfSome};
 ghost use Rattle.std.specs.Io.{ReadsAtMost};
 
-use crate::FrameSink;
+use libc::net::{MSG_DONTWAIT, recv};
 use std::hint;
 use std::io::{self, ErrorKind, Read};
 use std::net::TcpStream;
+use std::os::fd::AsRawFd;
 use std::sync::atomic::{AtomicU32, Ordering};
 
 /// The number of times that a read asks the system for bytes before it waits for them: for some 20 microseconds.
@@ -51,7 +52,6 @@ impl Senders {
 /// session that waits for a lock would find it taken again by the time that its thread is awake.
 pub struct RequestStream<'a> {
     stream: TcpStream,
-    sink: &'a FrameSink<TcpStream>,
     senders: &'a Senders,
     session: u32,
     /// True if the last two pieces that the server read were its own.
@@ -64,7 +64,6 @@ impl<'a> Drop for RequestStream<'a> {
     fn drop(self) {
         let RequestStream {
             stream,
-            sink: _,
             senders,
             session: _,
             is_alone: _,
@@ -79,15 +78,9 @@ impl<'a> Drop for RequestStream<'a> {
 
 impl<'a> RequestStream<'a> {
     /// Nothing is read yet.
-    pub fn new(
-        stream: TcpStream,
-        sink: &'a FrameSink<TcpStream>,
-        senders: &'a Senders,
-        session: u32,
-    ) -> RequestStream<'a> {
+    pub fn new(stream: TcpStream, senders: &'a Senders, session: u32) -> RequestStream<'a> {
         RequestStream {
             stream,
-            sink,
             senders,
             session,
             is_alone: false,
@@ -95,40 +88,39 @@ impl<'a> RequestStream<'a> {
         }
     }
 
-    /// Reads the bytes that come soon. Nothing is written meanwhile: if a stream's reads don't wait, its writes don't
-    /// either.
+    /// What comes soon.
     fn poll(&self, buf: &mut [u8]) -> Option<io::Result<usize>>
         ensures { IfSome result (λ read. ReadsAtMost read buf.new) }
     {
-        if !self.is_alone || !self.senders.are_answered() {
+        if !self.is_alone {
             return None;
         }
-        let _sink = self.sink.try_hold()?;
-        if let Err(error) = self.stream.set_nonblocking(true) {
-            return Some(Err(error));
-        }
-        let read = self.ask(buf);
-        match self.stream.set_nonblocking(false) {
-            Ok(()) => read,
-            Err(error) => Some(Err(error)),
-        }
-    }
-
-    fn ask(&self, buf: &mut [u8]) -> Option<io::Result<usize>>
-        ensures { IfSome result (λ read. ReadsAtMost read buf.new) }
-    {
-        let mut stream = &self.stream;
         for _ in 0..TURNS {
-            match stream.read(buf) {
-                Err(error) if matches!(error.kind(), ErrorKind::WouldBlock) => {}
-                read => return Some(read),
-            }
             if !self.senders.are_answered() {
                 return None;
+            }
+            let read = read_now(&self.stream, buf);
+            if read.is_some() {
+                return read;
             }
             hint::spin_loop();
         }
         None
+    }
+}
+
+/// One read without a wait. None if nothing is there.
+fn read_now(stream: &TcpStream, buf: &mut [u8]) -> Option<io::Result<usize>>
+    ensures { IfSome result (λ read. ReadsAtMost read buf.new) }
+{
+    let count = unsafe { recv(stream.as_raw_fd(), buf, MSG_DONTWAIT) };
+    if count >= 0 {
+        return Some(Ok(count as usize));
+    }
+    let error = io::Error::from_raw_os_error(os::errno());
+    match error.kind() {
+        ErrorKind::WouldBlock => None,
+        _ => Some(Err(error)),
     }
 }
 

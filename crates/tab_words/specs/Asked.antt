@@ -56,6 +56,7 @@ pub record IsServiceOf (rows : List Row) (s : Service) : Type 0 where
   pub metrics : MayBeNumberOf (codes "metrics") 0 65535 rows s.metrics
   pub slow : MayBeNumberOf (codes "slow") 1 86400 rows s.slow
   pub aborts : IsFlagOf (codes "abort-waits") rows s.aborts
+  pub drains : IsFlagOf (codes "drain") rows s.drains
 
 -- where clients are to connect: at the port in its text, or at the socket file whose path is the text as it was written
 abbrev pub IsAddressOf : List Row → Address → Type 0

@@ -133,6 +133,15 @@ fn abort_waits<'a>(alloc: Global) -> Arg<'a>
     )
 }
 
+fn drain<'a>(alloc: Global) -> Arg<'a>
+    ensures rule { rule_of result ≡ flag_rule (codes "drain") }
+    ensures own { IsFalse result.global }
+{
+    flag(alloc, "drain").help(
+        "At the end of standard input no more connections are accepted, and the server ends once open transactions have ended",
+    )
+}
+
 fn metrics<'a>(alloc: Global) -> Arg<'a>
     ensures rule { rule_of result ≡ number_rule (codes "metrics") 0 65535 }
     ensures own { IsFalse result.global }
@@ -168,7 +177,8 @@ pub fn serve<'a>(alloc: Global) -> Result<Command<'a>, AllocError>
         .arg(log(alloc))?
         .arg(metrics(alloc))?
         .arg(slow(alloc))?
-        .arg(abort_waits(alloc))
+        .arg(abort_waits(alloc))?
+        .arg(drain(alloc))
 }
 
 fn replay<'a>(alloc: Global) -> Result<Command<'a>, AllocError>

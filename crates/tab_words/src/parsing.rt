@@ -122,6 +122,7 @@ fn service(matches: &ArgMatches<'_>) -> Service
         metrics: metrics(matches),
         slow: slow(matches),
         aborts: is_given(matches, "abort-waits"),
+        drains: is_given(matches, "drain"),
     }
 }
 

@@ -1,11 +1,15 @@
 //! What a server says while it goes on, on standard error.
 
+use crate::draining::Drained;
+use crate::slow::Slow;
 use std::alloc::{AllocError, Global};
 use std::io;
+use std::net::TcpStream;
 use std::sync::{Mutex, Wait};
 use std::time::{Clock, Duration};
-use tab_etf::{Target, give_all};
-use tab_metrics::{Holdings, Meters, Paged, page_of};
+use tab_book::Activity;
+use tab_etf::{Source, Target, give_all};
+use tab_metrics::{Holdings, Meters, Paged, Roster, page_of, sessions_of, transaction_text};
 use tab_server::{Count, Counts, Gate, Note, Notes};
 use tab_words::Log;
 
@@ -15,11 +19,14 @@ pub struct Told {
     pub log: Log,
     pub meters: Option<Meters>,
     pub slow: Option<u32>,
+    /// Whether the end of standard input ends connections, and how many seconds a session may be idle.
+    pub drains: bool,
+    pub idle: Option<u32>,
 }
 
 /// A device for lines, of which each is whole.
 #[derive(Drop)]
-pub struct Lines<R, E> {
+pub struct Lines<R, E, I> {
     rt: R,
     alloc: Global,
     log: Log,
@@ -30,12 +37,21 @@ pub struct Lines<R, E> {
     meters: Option<Meters>,
     /// A transaction that was open for so many seconds has a line.
     slow: Option<u32>,
+    roster: Roster,
+    idle: Option<u32>,
+    input: Mutex<I>,
 }
 
-impl<R: Wait, E: Target> Lines<R, E> {
+impl<R: Wait, E: Target, I: Source> Lines<R, E, I> {
     /// Writes lines to this device, under a lock; of the log only those that are asked for.
-    pub fn new(rt: R, alloc: Global, told: Told, device: E) -> Lines<R, E> {
-        let Told { log, meters, slow } = told;
+    pub fn new(rt: R, alloc: Global, told: Told, device: E, input: I) -> Lines<R, E, I> {
+        let Told {
+            log,
+            meters,
+            slow,
+            drains,
+            idle,
+        } = told;
         Lines {
             rt,
             alloc,
@@ -44,6 +60,9 @@ impl<R: Wait, E: Target> Lines<R, E> {
             reason: Mutex::new(None),
             meters,
             slow,
+            roster: Roster::new(drains),
+            idle,
+            input: Mutex::new(input),
         }
     }
 
@@ -60,8 +79,13 @@ impl<R: Wait, E: Target> Lines<R, E> {
         let _told = give_all(&mut *device, line.as_bytes());
     }
 
+    /// Of a session, with the address of its client if that has one.
     fn put_of(&self, session: u32, what: &str) {
-        if let Ok(line) = format!(in self.alloc; "tabd: session {session} {what}\n") {
+        let line = match self.roster.peer(&self.rt, session) {
+            Some(peer) => format!(in self.alloc; "tabd: session {session} ({peer}) {what}\n"),
+            None => format!(in self.alloc; "tabd: session {session} {what}\n"),
+        };
+        if let Ok(line) = line {
             self.put(&line);
         }
     }
@@ -92,10 +116,16 @@ impl<R: Wait, E: Target> Lines<R, E> {
     }
 }
 
-impl<R: Wait + Clock, E: Target> Counts for Lines<R, E> {
+impl<R: Wait + Clock, E: Target, I: Source> Counts for Lines<R, E, I> {
     fn count(&self, count: Count, many: u64) {
         if let Some(meters) = &self.meters {
             meters.count(count, many);
+        }
+    }
+
+    fn count_of(&self, session: u32, count: Count, many: u64) {
+        if let Some(meters) = &self.meters {
+            meters.count_of(session, count, many);
         }
     }
 
@@ -112,10 +142,17 @@ impl<R: Wait + Clock, E: Target> Counts for Lines<R, E> {
     }
 }
 
-impl<R: Wait + Clock, E: Target> Paged for Lines<R, E> {
+impl<R: Wait + Clock, E: Target, I: Source> Paged for Lines<R, E, I> {
     fn page(&self, holdings: &Holdings) -> Result<String, AllocError> {
         match &self.meters {
             Some(meters) => page_of(&self.rt, self.alloc, meters, holdings),
+            None => Ok(String::new(self.alloc)),
+        }
+    }
+
+    fn sessions(&self, activities: &[Activity]) -> Result<String, AllocError> {
+        match &self.meters {
+            Some(meters) => sessions_of(&self.rt, self.alloc, meters, &self.roster, activities),
             None => Ok(String::new(self.alloc)),
         }
     }
@@ -125,13 +162,61 @@ impl<R: Wait + Clock, E: Target> Paged for Lines<R, E> {
     }
 }
 
-impl<R: Wait + Clock, E: Target> Gate for Lines<R, E> {
+impl<R: Wait + Clock, E: Target, I: Source> Gate for Lines<R, E, I> {
     fn before(&self, _session: u32, _call: u64) {}
 
     fn after(&self, _session: u32, _call: u64) {}
 }
 
-impl<R: Wait + Clock, E: Target> Notes for Lines<R, E> {
+impl<R: Wait + Clock, E: Target, I: Source> Slow for Lines<R, E, I> {
+    fn any_is_late(&self) -> bool {
+        match (&self.meters, self.slow) {
+            (Some(meters), Some(least)) => meters.any_is_late(&self.rt, u64::from(least)),
+            _ => false,
+        }
+    }
+
+    fn report_late(&self, activity: &Activity) {
+        let (Some(meters), Some(least)) = (&self.meters, self.slow) else {
+            return;
+        };
+        let session = activity.session;
+        let Some(seconds) = meters.take_late(&self.rt, session, u64::from(least)) else {
+            return;
+        };
+        let Ok(text) = transaction_text(self.alloc, activity) else {
+            return;
+        };
+        if let Ok(what) = format!(in self.alloc; "has a transaction open for {seconds} s; {text}") {
+            self.put_of(session, &what);
+        }
+    }
+}
+
+/// So many bytes are read of the input at once, of which nothing is kept.
+const PIECE: usize = 4_096;
+
+impl<R: Wait + Clock, E: Target, I: Source> Drained for Lines<R, E, I> {
+    fn wait_for_end(&self) {
+        let mut piece = [0u8; PIECE];
+        for _ in self.rt.forever() {
+            match self.input.lock(&self.rt).get(&mut piece) {
+                Ok(0) | Err(_) => return,
+                Ok(_) => {}
+            }
+        }
+    }
+
+    fn roster(&self) -> &Roster {
+        &self.roster
+    }
+
+    fn idle(&self) -> Option<u32> {
+        self.idle
+    }
+}
+
+impl<R: Wait + Clock, E: Target, I: Source> Notes for Lines<R, E, I> {
     fn note(&self, note: Note) {
         if let Some(meters) = &self.meters {
             meters.note(note);
@@ -142,13 +227,24 @@ impl<R: Wait + Clock, E: Target> Notes for Lines<R, E> {
             Note::NoThread => self.put("tabd: no thread for a session\n"),
             Note::Idle(session) => self.put_of(session, "was idle"),
             Note::Started(session) => self.log_of(session, "has started"),
-            Note::Ended(session) => self.log_of(session, "has ended"),
+            Note::Ended(session) => {
+                self.log_of(session, "has ended");
+                self.roster.leave(&self.rt, session);
+            }
             Note::Overflowed(session, commit) => self.log_overflow(session, commit),
             Note::NoSeat if matches!(self.log, Log::Full) => {
                 self.put("tabd: no seat for a connection\n");
             }
             Note::NoSeat => {}
         }
+    }
+
+    fn connected(&self, session: u32, stream: &TcpStream) {
+        self.roster.join(&self.rt, session, stream);
+    }
+
+    fn is_closing(&self) -> bool {
+        self.roster.is_closing()
     }
 
     fn fault(&self, error: &io::Error) {

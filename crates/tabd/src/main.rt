@@ -2,11 +2,13 @@
 #![tactic(auto)]
 
 mod address;
+mod draining;
 mod ending;
 mod lines;
 mod opening;
 mod running;
 mod serving;
+mod slow;
 mod socket_file;
 
 use lines::{Lines, Told};
@@ -30,9 +32,17 @@ fn main(rt: HostRuntime) -> ExitCode {
             log: Log::Brief,
             meters: None,
             slow: None,
+            drains: false,
+            idle: None,
         },
     };
-    let lines = Lines::new(rt, rt.alloc(), told, Counted::new(rt.stderr()));
+    let lines = Lines::new(
+        rt,
+        rt.alloc(),
+        told,
+        Counted::new(rt.stderr()),
+        Counted::new(rt.stdin()),
+    );
     let opened = Opened::new();
     let status = run::<Brand, _, _, _, _, _>(
         &rt,
@@ -52,6 +62,8 @@ fn told(service: &Service) -> Told {
         log: service.log,
         meters: meters(service),
         slow: service.slow,
+        drains: service.drains,
+        idle: service.idle,
     }
 }
 

@@ -6,8 +6,10 @@ ghost use Rattle.clap.specs.Words.{kind_of};
 ghost use Rattle.tabd.specs.declared.ending.End.{End as EndOf};
 ghost use Rattle.tabd.specs.Endings.{OfRun, IsShown, IsTextFault, OnStreams, Plays, TellsEnd, end_of_words, line_of, status_of, streams};
 
+use crate::draining::Drained;
 use crate::ending::{End, end_of_replay, end_of_words, line_of, status_of};
 use crate::serving::listen;
+use crate::slow::Slow;
 use crate::{Ended, replay};
 use clap::Error;
 use std::alloc::Global;
@@ -17,7 +19,6 @@ use std::rt::Files;
 use std::sync::Wait;
 use std::thread::Threads;
 use tab_etf::{Source, Target, give_all};
-use tab_metrics::Paged;
 use tab_post::{Channel, Naming, Opened};
 use tab_server::{Gate, Notes};
 use tab_words::Run;
@@ -47,7 +48,7 @@ where
     R: Source,
     W: Target,
     E: Target,
-    G: Gate + Notes + Paged + Sync,
+    G: Gate + Notes + Drained + Slow + Sync,
     requires { opened ≡ J.book }
     ensures replayed { IfOk asked (λ words. (end : EndOf) × (exit_status result ≡ status_of end)
         × OfRun words
@@ -99,7 +100,7 @@ where
         + Sync,
     R: Source,
     W: Target,
-    G: Gate + Notes + Paged + Sync,
+    G: Gate + Notes + Drained + Slow + Sync,
     requires { opened ≡ J.book }
     ensures { OfRun words
         (λ outbox. Plays outbox

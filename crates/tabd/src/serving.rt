@@ -5,8 +5,10 @@ ghost use Rattle.std.specs.Duration.{as_nanos};
 
 use crate::Ended;
 use crate::address::{Place, listen_at, listen_on};
+use crate::draining::{Drained, serve_until_end};
 use crate::ending::End;
 use crate::opening::opened_book;
+use crate::slow::{Slow, serve_watched};
 use std::alloc::{AllocError, Global};
 use std::marker::PhantomData;
 use std::net::{Net, TcpListener, TcpStream};
@@ -17,7 +19,7 @@ use std::time::Duration;
 use std::{io, thread};
 use tab_book::Shared;
 use tab_etf::{Broken, Target, give_all};
-use tab_metrics::{Closing, Paged, serve_pages};
+use tab_metrics::{Closing, serve_pages};
 use tab_post::{Channel, Host, Naming, Opened};
 use tab_server::{Delivery, Gate, Listener, Notes, Settings, serve, serve_forever};
 use tab_words::{Address, Service};
@@ -39,10 +41,12 @@ fn settings(delivery: Delivery, idle: Option<u32>, aborts: bool) -> Settings
     }
 }
 
-/// The listeners for clients and for the page of counters, and the lines that name their addresses.
+/// The listeners for clients and for the pages, and the lines that name their addresses.
 #[derive(Drop)]
-struct Listening<'a> {
+pub struct Listening<'a> {
     clients: &'a Listener,
+    /// What ends the accepting of clients, if the end of standard input does.
+    door: Option<TcpStream>,
     pages: Option<TcpListener>,
     lines: String,
 }
@@ -68,7 +72,7 @@ where
         + Send
         + Sync,
     W: Target,
-    G: Gate + Notes + Paged + Sync,
+    G: Gate + Notes + Drained + Slow + Sync,
     requires { opened ≡ J.book }
 {
     match listen_at(&rt, address) {
@@ -98,10 +102,10 @@ where
     J: Naming + Send + Sync,
     R: Net<Listener = TcpListener, Stream = TcpStream> + Threads + Wait + Copy + Send + Sync,
     W: Target,
-    G: Gate + Notes + Paged + Sync,
+    G: Gate + Notes + Drained + Slow + Sync,
     requires { opened ≡ J.book }
 {
-    match listen_for_pages(&rt, alloc, clients, place, service.metrics, gate) {
+    match listen_for_pages(&rt, alloc, clients, place, service, gate) {
         Ok(listening) => {
             let host = (rt, PhantomData::<J>);
             serve_on(host, alloc, opened, &listening, service, output, gate)
@@ -110,13 +114,13 @@ where
     }
 }
 
-/// Listens for clients of the page, if it is wanted.
+/// Listens for clients of the pages, if they are wanted.
 fn listen_for_pages<'a, R, N>(
     rt: &R,
     alloc: Global,
     clients: &'a Listener,
     place: &Place<'_>,
-    metrics: Option<u16>,
+    service: Service,
     notes: &N,
 ) -> Result<Listening<'a>, Ended>
 where
@@ -124,7 +128,12 @@ where
     N: Notes,
 {
     let mut lines = line_of(alloc, place).map_err(|_| Ended::NoMemory)?;
-    let pages = match metrics {
+    let door = if service.drains {
+        Some(clients.door().map_err(|error| refused(&error, notes))?)
+    } else {
+        None
+    };
+    let pages = match service.metrics {
         Some(wanted) => {
             let (pages, port) = listen_on(rt, wanted).map_err(|error| refused(&error, notes))?;
             write!(lines, "metrics on 127.0.0.1:{port}\n").map_err(|_| Ended::NoMemory)?;
@@ -134,6 +143,7 @@ where
     };
     Ok(Listening {
         clients,
+        door,
         pages,
         lines,
     })
@@ -165,7 +175,7 @@ fn serve_on<H, W, G>(
 where
     H: Host + Threads + Send + Sync,
     W: Target,
-    G: Gate + Notes + Paged + Sync,
+    G: Gate + Notes + Drained + Slow + Sync,
     requires { opened ≡ H.book }
 {
     let Ok(book) = opened_book(host, alloc, opened, &service) else {
@@ -193,7 +203,7 @@ fn beside_pages<H, W, G>(
 where
     H: Host + Threads + Send + Sync,
     W: Target,
-    G: Gate + Notes + Paged + Sync,
+    G: Gate + Notes + Drained + Slow + Sync,
 {
     let closing = &Closing::new();
     thread::scope(thread::scope_env(), host, |scope| {
@@ -207,7 +217,7 @@ where
     })
 }
 
-/// Prints the lines, and serves clients. Everything that serving needs exists before.
+/// Prints the lines, and serves clients; until standard input ends, if that is wanted.
 fn say_and_serve<H, W, G>(
     host: &H,
     alloc: Global,
@@ -220,7 +230,28 @@ fn say_and_serve<H, W, G>(
 where
     H: Host + Threads + Send + Sync,
     W: Target,
-    G: Gate + Notes + Sync,
+    G: Gate + Notes + Drained + Slow + Sync,
+{
+    match &listening.door {
+        Some(door) => serve_until_end(host, alloc, listening, door, shared, service, output, gate),
+        None => serve_said(host, alloc, listening, shared, service, output, gate),
+    }
+}
+
+/// Prints the lines, and serves clients. Everything that serving needs exists before.
+pub fn serve_said<H, W, G>(
+    host: &H,
+    alloc: Global,
+    listening: &Listening<'_>,
+    shared: &Shared<H>,
+    service: Service,
+    output: &mut W,
+    gate: &G,
+) -> End
+where
+    H: Host + Threads + Send + Sync,
+    W: Target,
+    G: Gate + Notes + Slow + Sync,
 {
     if say(output, &listening.lines).is_err() {
         let error = io::Error::other("standard output can't be written");
@@ -235,7 +266,23 @@ fn say<W: Target>(output: &mut W, lines: &str) -> Result<(), Broken> {
     output.flush()
 }
 
-fn serve_clients<H: Host + Threads + Send + Sync, G: Gate + Notes + Sync>(
+/// Serves them until all sessions have ended, or for good.
+fn serve_clients<H: Host + Threads + Send + Sync, G: Gate + Notes + Slow + Sync>(
+    host: &H,
+    alloc: Global,
+    clients: &Listener,
+    shared: &Shared<H>,
+    service: Service,
+    gate: &G,
+) -> End {
+    if service.slow.is_some() {
+        return serve_watched(host, alloc, clients, shared, service, gate);
+    }
+    serve_plainly(host, alloc, clients, shared, service, gate)
+}
+
+/// The same without a thread that looks for slow transactions.
+pub fn serve_plainly<H: Host + Threads + Send + Sync, G: Gate + Notes + Sync>(
     host: &H,
     alloc: Global,
     clients: &Listener,

@@ -1,6 +1,6 @@
 -- The handle may go to another thread, and it and the gate be shared, as the function that starts the thread asks.
 use denote.Param.Send.{copied_send, copied_sync, param_sync}
-use Rattle.tab_server.proofs.accepting.fn.serve_forever.fn.scope.spawn.Goals as goal
+use Rattle.tab_server.proofs.accepting.fn.serve_all.fn.scope.spawn.Goals as goal
 
 pub serve_connection-requires-send-H : goal.serve_connection-requires-send-H
 serve_connection-requires-send-H g c κs within =

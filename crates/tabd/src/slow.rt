@@ -1,0 +1,70 @@
+//! Transactions that are open for long.
+
+use crate::Ended;
+use crate::ending::End;
+use crate::serving::serve_plainly;
+use std::alloc::Global;
+use std::thread;
+use std::thread::Threads;
+use tab_book::{Activity, Shared};
+use tab_metrics::Closing;
+use tab_post::Host;
+use tab_server::{Gate, Listener, Notes};
+use tab_words::Service;
+
+/// What has a line for each transaction that is open for long.
+pub trait Slow {
+    /// Whether some transaction is, and has no line yet.
+    fn any_is_late(&self) -> bool;
+
+    /// A line for the session's transaction with its locks, if it is and has none yet.
+    fn report_late(&self, activity: &Activity);
+}
+
+/// Serves clients, and looks for such transactions in a thread of its own.
+pub fn serve_watched<H, G>(
+    host: &H,
+    alloc: Global,
+    clients: &Listener,
+    shared: &Shared<H>,
+    service: Service,
+    gate: &G,
+) -> End
+where
+    H: Host + Threads + Send + Sync,
+    G: Gate + Notes + Slow + Sync,
+{
+    let closing = &Closing::new();
+    thread::scope(thread::scope_env(), host, |scope| {
+        let started = scope.spawn(move || watch(host, shared, gate, closing));
+        if started.is_err() {
+            return End::Stopped(Ended::NoMemory);
+        }
+        let end = serve_plainly(host, alloc, clients, shared, service, gate);
+        closing.close();
+        end
+    })
+}
+
+/// Looks for them until the server has ended. The book is locked only if one is found.
+fn watch<H: Host, G: Slow>(host: &H, shared: &Shared<H>, gate: &G, closing: &Closing) {
+    for _ in host.forever() {
+        if closing.is_over() {
+            return;
+        }
+        if gate.any_is_late() {
+            report(host, shared, gate);
+        }
+        closing.pause(host);
+    }
+}
+
+/// If memory is refused, they are looked for again.
+fn report<H: Host, G: Slow>(host: &H, shared: &Shared<H>, gate: &G) {
+    let Ok(activities) = shared.hold(host).activities() else {
+        return;
+    };
+    for activity in &activities {
+        gate.report_late(activity);
+    }
+}
