@@ -11,6 +11,7 @@ the counters have to be those of the clients' replies; the status is 1 if one is
 
 import os
 import random
+import re
 import sys
 import threading
 import time
@@ -128,7 +129,7 @@ def soak(program: str, seconds: float) -> None:
         counts = ", ".join(f"{page[name + '_total']} {name}" for name in ("commits", "restarts", "waits", "overflows", "items_sent"))
         print(f"{told['connections']} connections, {counts}: as told")
         idle = {f"tabd: session {number} was idle" for number in range(told["connections"] + 10)}
-        same("what it said", set(server.stopped().splitlines()) - idle, set())
+        same("what it said", set(re.sub(r" \(127[.\d]+:\d+\)", "", server.stopped()).splitlines()) - idle, set())
 
 
 def main() -> None:

@@ -4,8 +4,10 @@ Each case has servers of its own: one at a port, and one at a socket file.
 """
 
 import random
+import os
 import re
 import signal
+import subprocess
 import time
 from typing import Any, Callable, Iterator, Tuple
 
@@ -14,10 +16,17 @@ import pytest
 from tests.lib.checks import ATOMIC, CREATE, HERE_OK, LIMIT, OK, at_last, begun, change, event, fill_outbox, follow, gets, one_shot
 from tests.lib.checks import opened, overflow, read_waits, script, waits, watch, write
 from tests.lib.servers import Server, descriptors, forever
-from tests.lib.wire import frame
+from tests.lib.wire import Connection, frame
 
 seats = pytest.mark.seats
+# The address of a session's client in a line.
+AT = r"(?: \(127\.0\.0\.1:\d+\))?"
 pytestmark = [pytest.mark.serial, pytest.mark.parametrize("place", ["at a port", "at a file"])]
+
+
+def at(connection: Connection) -> str:
+    """The address of a session's client, as a line has it."""
+    return f" ({connection.address()})" if connection.address() else ""
 
 
 @pytest.fixture
@@ -103,7 +112,7 @@ def test_out_of_descriptors(server: Server) -> None:
     assert found[0] == "tid", "the last"
 
 
-@seats(3, "--idle", "1", said="tabd: session 2 was idle\n")
+@seats(3, "--idle", "1", said=rf"tabd: session 2{AT} was idle\n")
 @pytest.mark.tries(3)
 def test_idle(server: Server) -> None:
     """An idle transaction ends, with its connection, and its locks are released. A session that waits for its lock, and a session without
@@ -148,39 +157,128 @@ def test_a_reader_that_takes_nothing(server: Server) -> None:
     other, found = server.seated()
     assert found[0] == "tid", "another is served"
     # It prints the line once another can be served.
-    assert server.log() == "tabd: session 1 was idle\n", "what it said"
+    assert re.fullmatch(rf"tabd: session 1{AT} was idle\n", server.log()), "what it said"
 
 
 @seats(2, "--log", "--outbox", "16")
 def test_a_log(server: Server) -> None:
     """Each start, end and overflow of a session, and each refusal of a connection, has a line."""
     reader = server.connect(small=True)
-    assert server.log() == "tabd: session 1 has started\n", "a start"
+    assert server.log() == f"tabd: session 1{at(reader)} has started\n", "a start"
     writer = server.connect()
-    assert server.log() == "tabd: session 2 has started\n", "another"
+    assert server.log() == f"tabd: session 2{at(writer)} has started\n", "another"
+    writers, readers = at(writer), at(reader)
     third = server.connect()
     assert (third.receive(), server.log()) == (LIMIT, "tabd: no seat for a connection\n"), "the third"
     script((writer, CREATE, ATOMIC), (reader, watch(), HERE_OK))
     fill_outbox(writer, 200)
     lost = overflow(reader)
-    assert server.log() == f"tabd: session 1 lost its events from commit {lost} on\n", "an overflow"
+    assert server.log() == f"tabd: session 1{readers} lost its events from commit {lost} on\n", "an overflow"
     writer.break_off()
-    assert server.log() == "tabd: session 2 has ended\n", "an end"
+    assert server.log() == f"tabd: session 2{writers} has ended\n", "an end"
     reader.close()
-    assert server.log() == "tabd: session 1 has ended\n", "another"
+    assert server.log() == f"tabd: session 1{readers} has ended\n", "another"
 
 
 @seats(2, "--slow", "1")
 def test_slow_transactions(server: Server) -> None:
-    """A transaction that was open for a second has a line after its end, whether it is committed or its client goes; a shorter one has none."""
+    """A transaction that has been open for a second has a line then, and one after its end, whether it is committed or its client goes; a shorter
+    one has none."""
     first, second = server.clients(2)
     begun(first, second)
     script((second, "commit", ("atomic", 1)), (second, one_shot(write(1, "a")), ("atomic", [OK])), (second, "begin", ("tid", 4)))
-    time.sleep(1.2)
+    assert re.fullmatch(rf"tabd: session 1{AT} has a transaction open for 1 s; locks: -\n", server.log()), "the first"
+    assert re.fullmatch(rf"tabd: session 2{AT} has a transaction open for 1 s; locks: -\n", server.log()), "the second"
     script((first, "commit", ("atomic", 3)))
-    assert re.fullmatch(r"tabd: session 1 had a transaction open for \d+ s\n", server.log()), "a commit"
+    assert re.fullmatch(rf"tabd: session 1{AT} had a transaction open for \d+ s\n", server.log()), "a commit"
     second.close()
-    assert re.fullmatch(r"tabd: session 2 had a transaction open for \d+ s\n", server.log()), "an end"
+    assert re.fullmatch(rf"tabd: session 2{AT} had a transaction open for \d+ s\n", server.log()), "an end"
+
+
+@seats(3, "--slow", "1", said=rf"(tabd: session \d{AT} had a transaction open for \d+ s\n)*")
+def test_a_contest_in_the_log(server: Server) -> None:
+    """Slow transactions that contend: the lines name the sessions, their clients, the tables of their locks, and the table and session that are waited for."""
+    older, younger, third = server.connect(), server.connect(), server.connect()
+    read_waits(older, younger)
+    script((third, ("create_table", "u", []), ATOMIC), (third, "begin", ("tid", 3)))
+    script((third, ("write", ("u", 1, "a")), OK), (third, ("write", ("u", 2, "a")), OK), (third, ("read", "t", 2), []))
+    opened = "has a transaction open for 1 s; locks: "
+    assert server.log() == f"tabd: session 1{at(older)} {opened}-; waits for: t of 2\n", "the one that waits"
+    assert server.log() == f"tabd: session 2{at(younger)} {opened}t=1\n", "the one that has the lock"
+    assert server.log() == f"tabd: session 3{at(third)} {opened}u=2,t=1\n", "another"
+    script((younger, "commit", ("atomic", 1)))
+    assert re.fullmatch(rf"tabd: session 2{AT} had a transaction open for \d+ s\n", server.log()), "its end"
+    assert older.receive() == ("reply", [("t", 1, "b")]), "its reply"
+
+
+@pytest.fixture
+def drained(tabd: str, request: pytest.FixtureRequest, tmp_path: Any, place: str) -> Iterator[Server]:
+    """A server with `--drain` and the options of the mark `words`, whose standard input is a pipe."""
+    mark = request.node.get_closest_marker("words")
+    path = str(tmp_path / "socket") if place == "at a file" else None
+    with forever(tabd, 4, "--drain", *(mark.args if mark else ()), path=path, stdin=subprocess.PIPE) as server:
+        yield server
+    assert path is None or server.process.returncode != 0 or not os.path.exists(path), "its file"
+
+
+def end_input(server: Server) -> float:
+    """Ends its standard input, and says when."""
+    server.process.stdin.close()  # type: ignore[union-attr]
+    server.process.stdin = None
+    return time.monotonic()
+
+
+def test_the_end_of_input(drained: Server) -> None:
+    """No more are accepted, who has no transaction is closed once it has its events, and a transaction goes on to its end."""
+    writer, reader, idle = drained.connect(), drained.connect(), drained.connect()
+    script((writer, CREATE, ATOMIC), (reader, watch(), HERE_OK), (idle, "begin", ("tid", 1)), (idle, "commit", ("atomic", 1)))
+    script((writer, ("transaction", [write(1, "a")], 0), ("atomic", [OK])), (writer, "begin", ("tid", 3)), (writer, write(2, "b"), OK))
+    drained.process.stdin.write("this is read, and nothing more\n")  # type: ignore[union-attr]
+    drained.process.stdin.flush()  # type: ignore[union-attr]
+    script((idle, "begin", ("tid", 4)), (idle, "commit", ("atomic", 3)))
+    end_input(drained)
+    assert idle.stream.read() == b"", "one without a transaction"
+    assert [reader.event()[0] for _ in range(2)] == ["mnesia_table_begin", "mnesia_table_event"], "its events"
+    assert reader.stream.read() == b"", "one that watches"
+    with pytest.raises(ConnectionRefusedError):
+        drained.connect()
+    script((writer, ("read", "t", 1), [("t", 1, "a")]), (writer, "commit", ("atomic", 4)))
+    assert writer.stream.read() == b"", "the last"
+    drained.ends()
+
+
+@pytest.mark.words("--idle", "2")
+def test_a_transaction_at_the_end_of_input(drained: Server) -> None:
+    """Transactions go on for as long as a session may be idle, also one that waits for a lock and has sent more."""
+    older, younger = drained.connect(), drained.connect()
+    read_waits(older, younger)
+    older.send(("read", "t", 3))
+    waits(older)
+    ended = end_input(drained)
+    time.sleep(1)
+    script((younger, ("read", "t", 4), []))
+    assert younger.stream.read() == b"", "the younger's end"
+    assert time.monotonic() - ended > 1.5, "its time"
+    drained.ends()
+    assert time.monotonic() - ended < 8, "the end"
+
+
+def test_an_input_that_has_ended(drained: Server) -> None:
+    """A server without connections ends at once."""
+    ended = end_input(drained)
+    drained.ends()
+    assert time.monotonic() - ended < 2, "its end"
+
+
+def test_an_end_without_forever(tabd: str, tmp_path: Any, place: str) -> None:
+    """Without `--forever` too, before as many connections came as it accepts."""
+    path = str(tmp_path / "socket") if place == "at a file" else None
+    with Server(tabd, "--connections", "3", "--drain", path=path, stdin=subprocess.PIPE) as server:
+        client = server.connect()
+        script((client, "begin", ("tid", 1)), (client, "commit", ("atomic", 1)))
+        end_input(server)
+        assert client.stream.read() == b"", "its client"
+        server.ends()
 
 
 @seats(3)

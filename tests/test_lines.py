@@ -66,6 +66,8 @@ WORDS: List[Any] = [
     (["serve", "--port", "0", "--connections", "1", "--idle", "86401"], 2, b"", b"error: "),
     (["--version"], 0, b"tabd 0.1.0\n", b""),
     (["--help"], 0, b"A server of named in-memory tables", b""),
+    (["serve", "--port", "0", "--connections", "1", "--drain=1"], 2, b"", b"error: "),
+    (["serve", "--drain"], 2, b"", MISSING + COUNT + ADDRESS + USAGE),
     (["serve", "--help"], 0, b"Serves each connection to a port or a socket file as a session\n" + USAGE, b""),
     (["replay", "--help"], 0, b"Answers the frames of standard input", b""),
 ]

@@ -6,13 +6,13 @@ import random
 import socket
 import subprocess
 import time
-from typing import Any, Callable, Iterator
+from typing import Any, Callable, Dict, Iterator, List
 
 import pytest
 
-from tests.lib.checks import ATOMIC, CREATE, HERE_OK, LIMIT, OK, UNWATCH, begun, change, fill_outbox, gets, one_shot, opened, overflow, read_waits
-from tests.lib.checks import script, side_by_side, watch, write
-from tests.lib.servers import Client, Metered, Server
+from tests.lib.checks import ATOMIC, CREATE, HERE_OK, LIMIT, OK, UNWATCH, begun, change, fill_outbox, gets, one_shot, opened, overflow, read_waits, same
+from tests.lib.checks import script, side_by_side, soon, watch, write
+from tests.lib.servers import COUNTED, Client, Metered, Server
 
 # A client of the page has so many seconds for its request; another is answered in less meanwhile.
 PATIENCE, MEANWHILE = 2, 1.5
@@ -139,6 +139,85 @@ def test_head_and_query(server: Metered) -> None:
     connection.request("HEAD", "/metrics")
     reply = connection.getresponse()
     assert (reply.status, reply.getheader("Content-Length"), reply.read()) == (200, str(len(server.ask()[2])), b""), "HEAD"
+
+
+def sessions(server: Metered) -> List[Dict[str, str]]:
+    """The page of sessions: the columns of each line."""
+    status, kind, text = server.ask(path="/sessions")
+    same("the page", (status, kind), (200, "text/plain; charset=utf-8"))
+    heading, *lines = text.splitlines()
+    names = heading.split()
+    for line in lines:
+        same(line, len(line.split()), len(names))
+    return [dict(zip(names, line.split())) for line in lines]
+
+
+def shows(server: Metered, session: int, **wanted: str) -> None:
+    """These columns of a session, at last."""
+    __tracebackhide__ = True
+
+    def find() -> Dict[str, str]:
+        found = [each for each in sessions(server) if each["session"] == str(session)]
+        return {name: found[0][name] for name in wanted} if found else {}
+
+    same(f"session {session}", soon(find, lambda found: found == wanted, COUNTED), wanted)
+
+
+NOTHING = {"waits_for": "-", "blocked_by": "-", "locks": "-"}
+
+
+def test_the_sessions_of_a_contest(server: Metered) -> None:
+    """Each has a line: which waits for which lock of which other, which backs off, and what each has."""
+    older, younger, third = server.connect(), server.connect(), server.connect()
+    same("none", [each["state"] for each in sessions(server)], ["idle"] * 3)
+    read_waits(older, younger)
+    shows(server, 1, state="waits", levels="1", waits_for="t", blocked_by="2", locks="-", peer=older.address())
+    shows(server, 2, **{**NOTHING, "locks": "t=1"}, state="open", levels="1", peer=younger.address())
+    shows(server, 3, **NOTHING, state="idle", levels="0", seconds="0", peer=third.address())
+    # A table lock of the younger's that the third is restarted for, and names that are not written as they are.
+    script((third, ("create_table", "my table, 50%=x", []), ATOMIC), (third, "begin", ("tid", 3)))
+    script((third, ("write", ("my table, 50%=x", 1, "a")), OK), (third, "begin", ("tid", 3)), (third, ("read", "t", 1), "restart"))
+    shows(server, 3, state="backs-off", levels="1", waits_for="t", blocked_by="2", locks="-")
+    script((third, "commit", ("atomic", 1)), (third, "begin", ("tid", 4)), (third, "begin", ("tid", 4)))
+    script((third, ("write", ("my table, 50%=x", 1, "a")), OK))
+    shows(server, 3, **{**NOTHING, "locks": "my%20table%2C%2050%25%3Dx=1"}, state="open", levels="2")
+    time.sleep(1.2)
+    assert all(1 <= int(each["seconds"]) <= 10 for each in sessions(server)[:2]), "the time"
+    script((younger, "commit", ("atomic", 2)))
+    assert older.receive() == ("reply", [("t", 1, "b")]), "its reply"
+    shows(server, 1, **{**NOTHING, "locks": "t=1"}, state="open")
+    shows(server, 2, **NOTHING, state="idle", seconds="0")
+    # Each that has a lock in the way is named, and each that asked for one before.
+    script((younger, ("create_table", "v", []), ATOMIC), (younger, "begin", ("tid", 5)), (younger, ("read", "v", 1), []))
+    script((third, ("read", "v", 1), []))
+    older.send(("write", ("v", 1, "a")))
+    shows(server, 1, state="waits", waits_for="v", blocked_by="2,3")
+    younger.break_off()
+    shows(server, 1, state="waits", waits_for="v", blocked_by="3")
+    assert [each["session"] for each in sessions(server)] == ["1", "3"], "one has left"
+
+
+def test_what_a_session_was_sent(server: Metered) -> None:
+    """The bytes that each client received, and the items that wait for one that does not read."""
+    writer, reader = server.connect(), server.connect(small=True)
+    script((writer, CREATE, ATOMIC), (reader, watch(), HERE_OK))
+    for number in range(1, 41):
+        script((writer, ("transaction", [write(1, b"v" * 100_000)], 0), ("atomic", [OK])))
+    assert 1 <= int(sessions(server)[1]["outbox"]) <= 40, "items that wait"
+    reader.widen()
+    for _ in range(41):
+        reader.event()
+    shows(server, 1, sent_bytes=str(writer.received), outbox="0")
+    shows(server, 2, sent_bytes=str(reader.received), outbox="0")
+    assert server.ask(path="/sessions?x")[0] == 200 and server.ask(path="/sessionsx")[0] == 404, "other paths"
+    assert server.ask(method="POST", path="/sessions")[0] == 405, "another method"
+    assert server.ask(method="HEAD", path="/sessions")[2] == "", "a head"
+    # A session that is new has not been sent what its predecessors were.
+    for number in range(3, 140):
+        client = server.connect()
+        script((client, "begin", ("tid", number + 38)), (client, "commit", ("atomic", number + 38)))
+        shows(server, number, sent_bytes=str(client.received))
+        client.close()
 
 
 def test_slow_clients(server: Metered) -> None:

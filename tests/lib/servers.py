@@ -34,8 +34,8 @@ class Server:
 
     def __init__(self, program: str, *words: str, path: Optional[str] = None, **options: Any) -> None:
         where = ["--socket", path] if path else ["--port", "0"]
-        pipes: Any = {"stdin": subprocess.DEVNULL, "stdout": subprocess.PIPE, "stderr": subprocess.PIPE}
-        self.process: subprocess.Popen[str] = subprocess.Popen([program, "serve", *where, *words], text=True, **pipes, **options)
+        pipes: Any = {"stdin": subprocess.DEVNULL, "stdout": subprocess.PIPE, "stderr": subprocess.PIPE, **options}
+        self.process: subprocess.Popen[str] = subprocess.Popen([program, "serve", *where, *words], text=True, **pipes)
         line = self.line()
         if not line.startswith("listening on "):
             raise OSError(f"the server does not start: {line}{self.process.communicate()[1]}")

@@ -63,6 +63,11 @@ class Connection:
         self.stream = self.socket.makefile("rb")
         self.events: Deque[Term] = deque()
 
+    def address(self) -> str:
+        """Its own, as the server shows it; empty at a socket file."""
+        name = self.socket.getsockname()
+        return f"{name[0]}:{name[1]}" if isinstance(name, tuple) else ""
+
     def payload(self) -> bytes:
         """The next frame's, not taken apart."""
         head = self.stream.read(4)

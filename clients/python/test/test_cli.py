@@ -222,7 +222,14 @@ class Commands(Patient):
             port = server.process.stdout.readline().rsplit(":", 1)[1].strip()
             page = json.loads(self.good("top", "--metrics", port, "--count", "1", "--json")[0])
             self.assertEqual(page["tabd_tables"], 0)
-            self.assertTrue(any("commits" in line for line in self.good("top", "--metrics", port, "--count", "1")))
+            self.assertEqual(page["sessions"], [])
+            with tabd.Client(server.port) as client:
+                client.create_table("t")
+                sessions = json.loads(self.good("top", "--metrics", port, "--count", "1", "--json")[0])["sessions"]
+                self.assertEqual([(one["session"], one["state"], one["waits_for"]) for one in sessions], [("1", "idle", "-")])
+                lines = self.good("top", "--metrics", port, "--count", "1")
+            self.assertTrue(any("commits" in line for line in lines))
+            self.assertEqual([line.split()[:2] for line in lines[-2:]], [["session", "state"], ["1", "idle"]])
         with page_of("tabd_tables 2\n") as port:
             self.assertIn("tabd_table_records", self.bad(1, "tables", "--metrics", port))
         with page_of(PAGE) as port:

@@ -7,7 +7,7 @@ import argparse
 import http.client
 import os
 import re
-from typing import Dict, Optional
+from typing import Dict, List, Optional
 
 from .common import Failure, Usage, address
 
@@ -22,6 +22,20 @@ def add_metrics(parser: argparse.ArgumentParser) -> None:
 
 def page_of(words: argparse.Namespace) -> Dict[str, float]:
     """The page's samples: a value for each name, its labels included."""
+    body = _body(words, "/metrics")
+    assert body is not None
+    return samples(body)
+
+
+def sessions_of(words: argparse.Namespace) -> List[Dict[str, str]]:
+    """The lines of the page of sessions, each by the names of its columns. None of a server that has no such page."""
+    lines = (_body(words, "/sessions", missing=True) or "").splitlines()
+    names = lines[0].split() if lines else []
+    return [dict(zip(names, line.split())) for line in lines[1:]]
+
+
+def _body(words: argparse.Namespace, path: str, missing: bool = False) -> Optional[str]:
+    """The page's text, or None if there is none and it may be missing."""
     text: Optional[str] = words.metrics or os.environ.get("TABD_METRICS")
     if not text:
         raise Usage("which page of metrics? say --metrics PORT or HOST:PORT, or set TABD_METRICS")
@@ -30,18 +44,20 @@ def page_of(words: argparse.Namespace) -> Dict[str, float]:
         raise Usage(f"{text}: metrics are at a port")
     page = http.client.HTTPConnection(host, port, timeout=SECONDS)
     try:
-        page.request("GET", "/metrics")
+        page.request("GET", path)
         answer = page.getresponse()
         body = answer.read().decode("utf-8", "replace")
+        if missing and answer.status == 404:
+            return None
         if answer.status != 200:
-            raise Failure(f"{text} answers GET /metrics with status {answer.status}")
+            raise Failure(f"{text} answers GET {path} with status {answer.status}")
     except OSError as error:
         raise Failure(f"no metrics at {text}: {error}") from error
     except http.client.HTTPException as error:
         raise Failure(f"{text} is no page of metrics: {type(error).__name__}") from error
     finally:
         page.close()
-    return samples(body)
+    return body
 
 
 def samples(body: str) -> Dict[str, float]:

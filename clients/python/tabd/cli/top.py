@@ -1,5 +1,5 @@
 # SPDX-License-Identifier: Apache-2.0
-"""`top`: the server's metrics, refreshed."""
+"""`top`: the server's metrics and sessions, refreshed."""
 
 from __future__ import annotations
 
@@ -7,10 +7,10 @@ import argparse
 import json
 import sys
 import time
-from typing import Callable, Dict, List
+from typing import Callable, Dict, List, Tuple
 
 from .common import flush, fraction, number, say_line
-from .metrics import add_metrics, by_table, page_of
+from .metrics import add_metrics, by_table, page_of, sessions_of
 
 # The rates, by the counter that each is made of, and what is shown as it is.
 RATES = (
@@ -51,16 +51,29 @@ def lines_of(page: Dict[str, float], before: Dict[str, float], seconds: float) -
     return lines
 
 
+def lines_of_sessions(sessions: List[Dict[str, str]]) -> List[str]:
+    """A heading and a line for each session: those with a transaction first, by the time that it is open."""
+    if not sessions:
+        return []
+    rows = [list(sessions[0])] + [list(one.values()) for one in sorted(sessions, key=_busy)]
+    widths = [max(len(row[column]) for row in rows) for column in range(len(rows[0]))]
+    return [""] + ["  ".join(text.ljust(width) for text, width in zip(row, widths)).rstrip() for row in rows]
+
+
+def _busy(session: Dict[str, str]) -> Tuple[int, int, int]:
+    return session["state"] == "idle", -int(session["seconds"]), int(session["session"])
+
+
 def top(words: argparse.Namespace) -> int:
     before: Dict[str, float] = {}
     then, left = 0.0, words.count
     while True:
-        page, now = page_of(words), time.monotonic()
+        page, sessions, now = page_of(words), sessions_of(words), time.monotonic()
         if words.json:
-            say_line(json.dumps(page))
+            say_line(json.dumps({**page, "sessions": sessions}))
         else:
             clear = "\x1b[H\x1b[J" if sys.stdout.isatty() else ""
-            say_line(clear + "\n".join(lines_of(page, before, now - then if before else 0.0)))
+            say_line(clear + "\n".join(lines_of(page, before, now - then if before else 0.0) + lines_of_sessions(sessions)))
         flush()
         before, then = page, now
         left -= 1
@@ -70,7 +83,7 @@ def top(words: argparse.Namespace) -> int:
 
 
 def add(command: Callable[..., argparse.ArgumentParser]) -> None:
-    added = command("top", top, "the server's metrics, refreshed")
+    added = command("top", top, "the server's metrics and sessions, refreshed")
     add_metrics(added)
     added.add_argument("--every", type=fraction(0.05), default=1.0, metavar="SECONDS", help="how often; 1 without it")
     added.add_argument("--count", type=number(0), default=0, metavar="TIMES", help="ends after so many pages; 0 is never")
