@@ -7,8 +7,10 @@ use tab_proto::Delivery;
 #[derive(Clone, Copy)]
 pub struct Settings {
     pub delivery: Delivery,
-    /// A session from which nothing comes for this time leaves if its transaction is open, or if it reads nothing.
-    pub idle: Option<Duration>,
+    /// A session from which nothing comes for so many seconds leaves if its transaction is open, or if it reads nothing.
+    pub idle: Option<u32>,
+    /// A session that has never subscribed, and from which nothing comes for so many seconds, leaves.
+    pub idle_sessions: Option<u32>,
     /// An abort ends the wait of the operation before it, which has no reply then.
     pub aborts: bool,
 }
@@ -18,6 +20,7 @@ impl Settings {
     pub const PLAIN: Settings = Settings {
         delivery: Delivery::Events,
         idle: None,
+        idle_sessions: None,
         aborts: false,
     };
 }

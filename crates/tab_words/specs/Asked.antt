@@ -57,6 +57,8 @@ pub record IsServiceOf (rows : List Row) (s : Service) : Type 0 where
   pub slow : MayBeNumberOf (codes "slow") 1 86400 rows s.slow
   pub aborts : IsFlagOf (codes "abort-waits") rows s.aborts
   pub drains : IsFlagOf (codes "drain") rows s.drains
+  pub limit : MayBeNumberOf (codes "transaction-limit") 1 86400 rows s.limit
+  pub idle_sessions : MayBeNumberOf (codes "idle-sessions") 1 86400 rows s.idle_sessions
 
 -- where clients are to connect: at the port in its text, or at the socket file whose path is the text as it was written
 abbrev pub IsAddressOf : List Row → Address → Type 0

@@ -142,6 +142,24 @@ fn drain<'a>(alloc: Global) -> Arg<'a>
     )
 }
 
+fn transaction_limit<'a>(alloc: Global) -> Arg<'a>
+    ensures rule { rule_of result ≡ number_rule (codes "transaction-limit") 1 86400 }
+    ensures own { IsFalse result.global }
+{
+    number_of(alloc, "transaction-limit", "SECONDS", 1, 86_400).help(
+        "A session is ended when its transaction has been open for so long, 1 to 86400",
+    )
+}
+
+fn idle_sessions<'a>(alloc: Global) -> Arg<'a>
+    ensures rule { rule_of result ≡ number_rule (codes "idle-sessions") 1 86400 }
+    ensures own { IsFalse result.global }
+{
+    number_of(alloc, "idle-sessions", "SECONDS", 1, 86_400).help(
+        "A session that has never subscribed is ended when it has sent nothing for so long, 1 to 86400",
+    )
+}
+
 fn metrics<'a>(alloc: Global) -> Arg<'a>
     ensures rule { rule_of result ≡ number_rule (codes "metrics") 0 65535 }
     ensures own { IsFalse result.global }
@@ -178,7 +196,9 @@ pub fn serve<'a>(alloc: Global) -> Result<Command<'a>, AllocError>
         .arg(metrics(alloc))?
         .arg(slow(alloc))?
         .arg(abort_waits(alloc))?
-        .arg(drain(alloc))
+        .arg(drain(alloc))?
+        .arg(transaction_limit(alloc))?
+        .arg(idle_sessions(alloc))
 }
 
 fn replay<'a>(alloc: Global) -> Result<Command<'a>, AllocError>

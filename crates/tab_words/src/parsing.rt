@@ -120,9 +120,11 @@ fn service(matches: &ArgMatches<'_>) -> Service
         idle: idle(matches),
         log: log(matches),
         metrics: metrics(matches),
-        slow: slow(matches),
+        slow: seconds(matches, "slow"),
         aborts: is_given(matches, "abort-waits"),
         drains: is_given(matches, "drain"),
+        limit: seconds(matches, "transaction-limit"),
+        idle_sessions: seconds(matches, "idle-sessions"),
     }
 }
 
@@ -168,10 +170,11 @@ fn metrics(matches: &ArgMatches<'_>) -> Option<u16>
     matches.get_one("metrics")
 }
 
-fn slow(matches: &ArgMatches<'_>) -> Option<u32>
-    ensures { MayBeNumberOf (codes "slow") 1 86400 (rows_of (found_of matches.now)) result }
+/// The number of seconds of an option, if it is given.
+fn seconds(matches: &ArgMatches<'_>, name: &str) -> Option<u32>
+    ensures { MayBeNumberOf name.now 1 86400 (rows_of (found_of matches.now)) result }
 {
-    matches.get_one("slow")
+    matches.get_one(name)
 }
 
 fn idle(matches: &ArgMatches<'_>) -> Option<u32>

@@ -51,4 +51,8 @@ pub struct Service {
     pub aborts: bool,
     /// The end of standard input ends the server.
     pub drains: bool,
+    /// The most seconds that a transaction may be open.
+    pub limit: Option<u32>,
+    /// The most seconds between the requests of a session that has never subscribed.
+    pub idle_sessions: Option<u32>,
 }
