@@ -49,6 +49,6 @@ pub struct Service {
     pub slow: Option<u32>,
     /// An abort ends the wait of the operation before it, which has no reply then.
     pub aborts: bool,
-    /// The end of standard input ends the server.
+    /// True if the end of standard input ends the server.
     pub drains: bool,
 }
