@@ -14,7 +14,7 @@ struct Open {
     session: u32,
     /// The time of its begin, if the clock could be read.
     since: Option<Instant>,
-    /// Whether it was reported as open for long.
+    /// True if it was reported as open for long.
     reported: bool,
 }
 
@@ -88,13 +88,13 @@ impl Meters {
         add(self.counter(count), many);
     }
 
-    /// So many more of these, of this session.
+    /// Adds `many` to a counter, and to that of the session if it has one.
     pub fn count_of(&self, session: u32, count: Count, many: u64) {
         add(self.counter(count), many);
         self.tallies.count(session, count, many);
     }
 
-    /// How many bytes were written to the session, and how many items of its outbox were sent.
+    /// Returns the bytes that were written to the session, and the number of items of its outbox that were sent.
     pub fn sent(&self, session: u32) -> (u64, u64) {
         self.tallies.sent(session)
     }
@@ -172,7 +172,7 @@ impl Meters {
         seconds(rt, ended)
     }
 
-    /// How many seconds the session's transaction is open; 0 if it has none.
+    /// The seconds since the session's transaction began; 0 if it has none, or if the clock can't be read.
     pub fn seconds<R: Wait + Clock>(&self, rt: &R, session: u32) -> u64 {
         let open = self.open.lock(rt);
         let found = open.iter().find(|open| open.session == session).copied();
@@ -180,14 +180,14 @@ impl Meters {
         seconds(rt, found)
     }
 
-    /// Whether a transaction is open for so many seconds that was not taken as late before.
+    /// Returns whether a transaction that `take_late` has not returned yet is open for at least `least` seconds.
     pub fn any_is_late<R: Wait + Clock>(&self, rt: &R, least: u64) -> bool {
         let open = self.open.lock(rt);
         open.iter()
             .any(|open| !open.reported && seconds(rt, Some(*open)) >= least)
     }
 
-    /// How many seconds the session's transaction is open, if that is so many and it was not taken as late before.
+    /// Returns the seconds since the session's transaction began, if they are at least `least` and were not returned before.
     pub fn take_late<R: Wait + Clock>(&self, rt: &R, session: u32, least: u64) -> Option<u64> {
         let mut open = self.open.lock(rt);
         for open in open.iter_mut() {

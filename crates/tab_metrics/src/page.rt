@@ -48,12 +48,12 @@ fn shared_tables<H: Host>(host: &H, shared: &Shared<H>) -> Result<(Catalog, u64)
     Ok((book.tables().share()?, book.journal().len() as u64))
 }
 
-/// What has a page of its meters and one of its sessions, and a clock.
+/// The texts of the page of meters and of the page of sessions, and a clock.
 pub trait Paged {
-    /// The page of meters, by what the book holds.
+    /// The page of meters, from the holdings of the book.
     fn page(&self, holdings: &Holdings) -> Result<String, AllocError>;
 
-    /// The page of sessions, by what they do.
+    /// The page of sessions, from the sessions' activities.
     fn sessions(&self, activities: &[Activity]) -> Result<String, AllocError>;
 
     /// The time since a start, which stays the same.

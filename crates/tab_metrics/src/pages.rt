@@ -17,12 +17,12 @@ use tab_post::Host;
 /// The most clients that are answered at once.
 const CLIENTS: u64 = 16;
 
-/// The kinds of text of the two pages.
+/// The parameters of the content types of the two pages.
 const METERS: &str = "version=0.0.4";
 
 const SESSIONS: &str = "charset=utf-8";
 
-/// Answers GET and HEAD of `/metrics` and of `/sessions`, each client in a thread of its own, until no more are looked for.
+/// Answers GET and HEAD of `/metrics` and `/sessions`, each client in a thread of its own, until `closing` is closed.
 pub fn serve_pages<H: Host + Threads + Send + Sync, P: Paged + Sync>(
     host: &H,
     alloc: Global,
@@ -104,7 +104,7 @@ fn page<H: Host, P: Paged>(
     paged.page(&Holdings::of(host, alloc, shared)?)
 }
 
-/// The book is locked for one pass over the sessions.
+/// Returns the page of sessions. The book is locked for one pass over them.
 fn sessions<H: Host, P: Paged>(
     host: &H,
     shared: &Shared<H>,
@@ -114,7 +114,7 @@ fn sessions<H: Host, P: Paged>(
     paged.sessions(&activities)
 }
 
-/// The answer to a request for this page, with the page or without it.
+/// The answer to a request for this page: its head, and the page too if `is_whole`.
 fn found(alloc: Global, kind: &str, page: &str, is_whole: bool) -> Result<String, AllocError> {
     let len = page.len();
     let body = if is_whole { page } else { "" };

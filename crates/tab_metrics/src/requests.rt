@@ -18,13 +18,13 @@ const PIECES: usize = 64;
 /// The kind of a request.
 #[derive(Clone, Copy, Debug, PartialEq, Eq)]
 pub enum Request {
-    /// The page of meters.
+    /// GET of the page of meters.
     Page,
-    /// Its head without the page.
+    /// HEAD of the page of meters.
     Head,
-    /// The page of sessions.
+    /// GET of the page of sessions.
     Sessions,
-    /// Its head without the page.
+    /// HEAD of the page of sessions.
     SessionsHead,
     /// A request for another path.
     Elsewhere,
@@ -90,14 +90,14 @@ fn request_in(head: &[u8]) -> Option<Request>
     }
 }
 
-/// Whether a request's target names the page of meters. A query changes nothing.
+/// Returns whether a request's target names the page of meters. A query is ignored.
 fn names_page(target: &[u8]) -> bool
     ensures { IsTrue result ↔ NamesPage target.now }
 {
     target == b"/metrics".as_slice() || target.starts_with(b"/metrics?".as_slice())
 }
 
-/// Whether it names the page of sessions.
+/// Returns whether a request's target names the page of sessions. A query is ignored.
 fn names_sessions(target: &[u8]) -> bool
     ensures { IsTrue result ↔ NamesSessions target.now }
 {

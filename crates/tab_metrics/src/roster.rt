@@ -10,9 +10,10 @@ use tab_book::SESSIONS;
 #[derive(Drop, Default)]
 struct Connected {
     session: u32,
-    /// A client at a socket file has no address.
+    /// The client's address; None for a client at a socket file.
     peer: Option<SocketAddr>,
-    /// To end it by.
+    /// A duplicate of the stream, by which the connection is ended. None if the server ends none, or if no descriptor was
+    /// left.
     stream: Option<TcpStream>,
 }
 
@@ -25,7 +26,7 @@ pub struct Roster {
 }
 
 impl Roster {
-    /// No connection. Only if the server ends connections, each is kept by a descriptor of its own.
+    /// Creates an empty roster. If `ends`, it keeps a descriptor of its own for each connection.
     pub fn new(ends: bool) -> Roster {
         Roster {
             ends,
@@ -34,7 +35,8 @@ impl Roster {
         }
     }
 
-    /// The session has this connection. It is ended at once if no more are accepted, or if it could not be ended later.
+    /// Adds the session's connection. It ends the reading of requests at once if no more connections are accepted, or if
+    /// no descriptor is left to end the connection later.
     pub fn join<R: Wait>(&self, rt: &R, session: u32, stream: &TcpStream) {
         let peer = stream.peer_addr().ok();
         let kept = if self.ends {
@@ -54,14 +56,14 @@ impl Roster {
         }
     }
 
-    /// The session has left.
+    /// Removes the session's connection.
     pub fn leave<R: Wait>(&self, rt: &R, session: u32) {
         self.connected
             .lock(rt)
             .retain(|connected| connected.session != session);
     }
 
-    /// The address of the session's client, if it has one.
+    /// Returns the address of the session's client, if it has one.
     pub fn peer<R: Wait>(&self, rt: &R, session: u32) -> Option<SocketAddr> {
         for connected in self.connected.lock(rt).iter() {
             if connected.session == session {
@@ -71,17 +73,17 @@ impl Roster {
         None
     }
 
-    /// No more connections are accepted.
+    /// Records that no more connections are accepted.
     pub fn close(&self) {
         self.is_closing.store(true, Ordering::SeqCst);
     }
 
-    /// Whether no more are accepted.
+    /// Returns whether no more connections are accepted.
     pub fn is_closing(&self) -> bool {
         self.is_closing.load(Ordering::SeqCst)
     }
 
-    /// The sessions that have a connection.
+    /// Returns the numbers of the sessions that have a connection.
     pub fn sessions<R: Wait>(&self, rt: &R) -> ArrayVec<u32, SESSIONS> {
         let mut sessions = ArrayVec::new();
         for connected in self.connected.lock(rt).iter() {
@@ -90,7 +92,7 @@ impl Roster {
         sessions
     }
 
-    /// Ends the session's connection: only what it reads, or what is written too.
+    /// Shuts down the session's connection for reading, for writing, or for both, as `how` says.
     pub fn shut<R: Wait>(&self, rt: &R, session: u32, how: Shutdown) {
         for connected in self.connected.lock(rt).iter() {
             if let (true, Some(stream)) = (connected.session == session, &connected.stream) {

@@ -1,4 +1,4 @@
-//! The page of sessions, one line each.
+//! The page of sessions, with one line for each session.
 
 use crate::meters::Meters;
 use crate::roster::Roster;
@@ -7,11 +7,11 @@ use std::sync::Wait;
 use std::time::Clock;
 use tab_book::{Activity, Doing};
 
-/// The names of its columns.
+/// The names of the columns.
 static HEADING: &str =
     "session state     levels seconds outbox sent_bytes   peer                  blocked_by waits_for locks\n";
 
-/// The page of these sessions.
+/// Returns the page of these sessions.
 pub fn sessions_of<R: Wait + Clock>(
     rt: &R,
     alloc: Global,
@@ -63,7 +63,7 @@ fn push_peer<R: Wait>(
     Ok(())
 }
 
-/// The last columns, whose texts may be long.
+/// Appends the last three columns, whose texts may be long.
 fn push_blocked(alloc: Global, text: &mut String, activity: &Activity) -> Result<(), AllocError> {
     let mut blockers = String::new(alloc);
     push_blockers(&mut blockers, activity)?;
@@ -89,7 +89,7 @@ fn push_blockers(text: &mut String, activity: &Activity) -> Result<(), AllocErro
     Ok(())
 }
 
-/// The tables of its locks, each with their number.
+/// Appends the tables in which the session has locks, each with the count of `Activity::locks`.
 fn push_locks(text: &mut String, activity: &Activity) -> Result<(), AllocError> {
     if activity.locks.is_empty() {
         text.push('-')?;
@@ -104,7 +104,8 @@ fn push_locks(text: &mut String, activity: &Activity) -> Result<(), AllocError> 
     Ok(())
 }
 
-/// Appends a table's name without a blank, a comma or an equals sign: those and other signs are written as `%` and two digits.
+/// Appends a table's name. Only ASCII letters, digits, `_-.@:` and characters from U+00A0 on are written as they are, any
+/// other as `%` and two hexadecimal digits. An empty name is written as `%`.
 fn push_name(text: &mut String, name: &str) -> Result<(), AllocError> {
     if name.is_empty() {
         text.push('%')?;
@@ -125,7 +126,8 @@ fn is_plain(character: char) -> bool {
         || matches!(character, '_' | '-' | '.' | '@' | ':')
 }
 
-/// What a session does with its transaction, in words for a line.
+/// Returns a text of the session's locks, and of the table and the blockers of the lock that it waits for or was
+/// restarted for.
 pub fn transaction_text(alloc: Global, activity: &Activity) -> Result<String, AllocError> {
     let mut text = String::from_str(alloc, "locks: ")?;
     push_locks(&mut text, activity)?;

@@ -1,11 +1,11 @@
-//! What is counted of each session.
+//! The counters of each session.
 
 use std::array;
 use std::sync::atomic::{AtomicU32, AtomicU64, Ordering};
 use tab_book::SESSIONS;
 use tab_server::Count;
 
-/// What is counted of one session. No session has the number 0.
+/// The counters of one session. They are free if `session` is 0, which is the number of no session.
 #[derive(Drop)]
 struct Tally {
     session: AtomicU32,
@@ -26,7 +26,7 @@ impl Tally {
         self.session.load(Ordering::SeqCst) == session
     }
 
-    /// It is this session's from now on, if it was no one's.
+    /// Takes the counters for this session if they are free. Returns whether they were.
     fn take(&self, session: u32) -> bool {
         let taken = self
             .session
@@ -41,7 +41,7 @@ impl Tally {
     }
 }
 
-/// What is counted of each joined session, without a lock.
+/// The counters of each joined session. Threads use them without a lock.
 #[derive(Drop)]
 pub(crate) struct Tallies {
     tallies: [Tally; SESSIONS],
@@ -68,7 +68,7 @@ impl Tallies {
         }
     }
 
-    /// So many more of these, of this session.
+    /// Adds `many` to the session's counter of written bytes or of sent items. It has no other counter.
     pub fn count(&self, session: u32, count: Count, many: u64) {
         let Some(tally) = self.of(session) else {
             return;
@@ -84,7 +84,7 @@ impl Tallies {
         }
     }
 
-    /// How many bytes were written to the session, and how many items of its outbox were sent.
+    /// Returns the bytes that were written to the session, and the number of items of its outbox that were sent.
     pub fn sent(&self, session: u32) -> (u64, u64) {
         match self.of(session) {
             Some(tally) => (
@@ -95,7 +95,7 @@ impl Tallies {
         }
     }
 
-    /// Mostly the first is the session's.
+    /// Finds the session's counters, mostly at the first place.
     fn of(&self, session: u32) -> Option<&Tally> {
         for step in 0..SESSIONS {
             let tally = &self.tallies[(session as usize).wrapping_add(step) % SESSIONS];

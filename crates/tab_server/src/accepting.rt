@@ -18,8 +18,8 @@ use tab_post::{Host, Inbox};
 use tab_proto::append_reply;
 use tab_sink::{RequestStream, Senders};
 
-/// Accepts so many connections, or those that come before the gate closes, and serves each until its session has ended. Ends
-/// when all have; with an error if an accept failed, which ends the accepting.
+/// Accepts `connections` connections, or those that come before the gate closes, and serves each until its session has
+/// ended. It ends when all have. A failed accept ends the accepting. It is returned as the error if the gate is open.
 pub fn serve<H: Host + Threads + Send + Sync, G: Gate + Notes + Sync>(
     host: &H,
     alloc: Global,
@@ -40,8 +40,8 @@ pub fn serve<H: Host + Threads + Send + Sync, G: Gate + Notes + Sync>(
     )
 }
 
-/// Serves connections until the gate closes, at once as many as the book has room for sessions. One that finds no seat is told
-/// so and closed. Where an accept, a join or a thread is refused it says so, and goes on after a pause.
+/// Serves connections until the gate closes, not more at once than the book has room for sessions. One that finds no
+/// room is refused and closed. If an accept, a join or a thread is refused, it reports that, and goes on after a pause.
 pub fn serve_forever<H: Host + Threads + Send + Sync, G: Gate + Notes + Sync>(
     host: &H,
     alloc: Global,
@@ -53,8 +53,8 @@ pub fn serve_forever<H: Host + Threads + Send + Sync, G: Gate + Notes + Sync>(
     let _served = serve_with_dispatcher(host, alloc, listener, shared, None, settings, gate);
 }
 
-/// Serves connections, so many or for good, while one thread more sends their events. If that can't be started, each connection
-/// sends its own.
+/// Serves `connections` connections, or without that number those that come before the gate closes. The dispatcher, a
+/// thread of its own, sends their events. If it can't be started, each connection's own thread sends them.
 fn serve_with_dispatcher<H: Host + Threads + Send + Sync, G: Gate + Notes + Sync>(
     host: &H,
     alloc: Global,

@@ -57,7 +57,7 @@ impl Streams {
         })
     }
 
-    /// The stream, to write to it only.
+    /// Returns the stream to write to, and drops the other two.
     pub fn writer(self) -> TcpStream {
         let Streams {
             reader: _,
@@ -72,7 +72,7 @@ impl Streams {
 }
 
 impl<H: Host> Connection<H> {
-    /// The session's connection, and the stream that requests are read from.
+    /// Returns the session's connection, and the stream that its requests are read from.
     pub fn new(
         alloc: Global,
         streams: Streams,
@@ -98,7 +98,8 @@ impl<H: Host> Connection<H> {
         Ok((connection, reader))
     }
 
-    /// Sends the session's events until it has left, as far as the dispatcher doesn't, and closes the connection.
+    /// Sends the session's events that the dispatcher does not send, until the session has left or sending fails. Then it
+    /// closes the connection.
     pub fn send_events<N: Notes>(
         &self,
         host: &H,

@@ -9,28 +9,28 @@ use std::thread;
 use std::time::Duration;
 use tab_post::Host;
 
-/// So many milliseconds it sleeps at a time if it is not woken.
+/// The most milliseconds of a sleep.
 const SLEEP: u64 = 1_000;
 
-/// So often it looks whether it is woken before it sleeps: for some 50 microseconds.
+/// The number of times that the thread looks at its bell before it sleeps: for some 50 microseconds.
 const TURNS: u32 = 128;
 
-/// The connections whose events one thread sends. It never waits for a connection, and the book's lock is not taken by it: what
-/// may wait is left to the connection's own thread (`Line`).
+/// The connections whose events one thread, the dispatcher, sends. That thread never blocks on a connection, and never
+/// locks the book: the connection's own thread (`Line`) does the work that may block.
 #[derive(Drop)]
 pub struct Dispatcher<H: Host> {
     lines: Mutex<Vec<Arc<Line<H>, Global>>>,
     bell: Condvar,
-    /// How many of their sessions have subscribed.
+    /// The number of sessions that have subscribed and have not left. It includes those whose connection is not in `lines`.
     watchers: AtomicU32,
-    /// So many items a mailbox holds.
+    /// The number of items that a mailbox has room for.
     outbox: usize,
     runs: AtomicBool,
     is_over: AtomicBool,
 }
 
 impl<H: Host> Dispatcher<H> {
-    /// No connections, and no thread yet.
+    /// Creates a dispatcher without connections, whose thread is not started yet.
     pub fn new(alloc: Global, outbox: usize) -> Dispatcher<H> {
         Dispatcher {
             lines: Mutex::new(Vec::new(alloc)),
@@ -42,18 +42,19 @@ impl<H: Host> Dispatcher<H> {
         }
     }
 
-    /// Its thread is started.
+    /// Records that the thread is started.
     pub fn begin(&self) {
         self.runs.store(true, Ordering::SeqCst);
     }
 
-    /// Its thread is to end.
+    /// Makes the thread end.
     pub fn end(&self) {
         self.is_over.store(true, Ordering::SeqCst);
         self.bell.notify_all();
     }
 
-    /// Sends the connection's events from here on. False if it can't: its thread was not started, or no memory is found.
+    /// Adds a connection, whose events the thread sends from now on. Returns false if the thread was not started, or if
+    /// memory is refused.
     pub fn add(&self, host: &H, line: &Arc<Line<H>, Global>) -> bool {
         if !self.runs.load(Ordering::SeqCst) {
             return false;
@@ -64,7 +65,7 @@ impl<H: Host> Dispatcher<H> {
         self.lines.lock(host).push(line).is_ok()
     }
 
-    /// Sends the connection's events no more.
+    /// Removes a connection.
     pub fn remove(&self, host: &H, line: &Line<H>) {
         self.lines
             .lock(host)
@@ -74,21 +75,21 @@ impl<H: Host> Dispatcher<H> {
         }
     }
 
-    /// The connection's session subscribes: its mailbox is looked at from here on.
+    /// Records that the connection's session subscribes. The thread looks at its mailbox from now on.
     pub fn watch(&self, line: &Line<H>) {
         if line.begin_watching() {
             self.watchers.fetch_add(1, Ordering::SeqCst);
         }
     }
 
-    /// Events may wait: the thread is woken, if a session has subscribed.
+    /// Wakes the thread, since items may be in mailboxes. Does nothing if no session has subscribed.
     pub fn ring(&self) {
         if self.watchers.load(Ordering::SeqCst) > 0 {
             self.bell.notify_all();
         }
     }
 
-    /// Sends events, until it is to end.
+    /// Sends events until `end` is called.
     pub fn run<N: Notes>(&self, host: &H, notes: &N) {
         for _ in host.forever() {
             let seen = self.bell.notifications();
@@ -101,7 +102,8 @@ impl<H: Host> Dispatcher<H> {
         }
     }
 
-    /// Whether it is woken before it sleeps. While it is awake, the sessions that wake it need not ask the system for it.
+    /// Returns whether the bell is rung within `TURNS` looks. A session that rings it while the thread is awake needs no
+    /// system call.
     fn is_rung_soon(&self, seen: u64) -> bool {
         for _ in 0..TURNS {
             if self.bell.notifications() != seen {
@@ -112,7 +114,7 @@ impl<H: Host> Dispatcher<H> {
         false
     }
 
-    /// Sends once what waits for each connection. True if more waits for one.
+    /// Sends once the waiting events of each connection whose session has subscribed. Returns true if one may have more.
     fn send_all<N: Notes>(&self, host: &H, notes: &N) -> bool {
         let lines = self.lines.lock(host);
         let mut more = false;

@@ -84,9 +84,9 @@ impl<'a, H: Host, W: Write, N: Notes> Events<'a, H, W, N> {
         self.send_waiting(1)
     }
 
-    /// Sends what is kept and all that is there, after so many items that were taken since the inbox was found empty. A post
-    /// refuses only where its mailbox is full, and what that held is received then before the inbox is found empty: where fewer
-    /// items came than it may hold, nothing was refused, and the book need not be asked.
+    /// Sends the kept frames, and all items that are in the inbox. `taken` items were received since the inbox was found
+    /// empty. If fewer items were received than the mailbox has room for, none was refused, and the book need not be asked:
+    /// `send_from` gives the reason.
     pub fn send_waiting(&mut self, taken: usize) -> Result<(), Unwritten> {
         let mut count = taken;
         for _ in self.host.forever() {

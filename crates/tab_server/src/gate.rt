@@ -48,7 +48,7 @@ pub trait Counts {
     /// Counts `many` more of these.
     fn count(&self, count: Count, many: u64);
 
-    /// So many more of these, of this session: of what it was sent.
+    /// Adds `many` to a counter, and to the session's. The counter is `Written` or `Items`.
     fn count_of(&self, session: u32, count: Count, many: u64);
 
     /// The session has opened a transaction.
@@ -72,10 +72,10 @@ pub trait Gate: Counts {
 pub trait Notes: Counts {
     fn note(&self, note: Note);
 
-    /// The session that has started is served on this connection, until it has left.
+    /// Reports the connection of a session that has joined, before its `Note::Started`.
     fn connected(&self, session: u32, stream: &TcpStream);
 
-    /// Whether no more connections are accepted.
+    /// Returns whether no more connections are accepted.
     fn is_closing(&self) -> bool;
 
     /// Reports the reason of the server's end.

@@ -1,8 +1,8 @@
 //! The server: connections over sockets of TCP or of Unix, each a session of a book that all share.
 //!
-//! Three threads serve a connection: one reads its requests and answers them, one sends it its events, and one watches
-//! its stream while a request waits for a lock. The first two share the sink, whose lock is never taken while the book
-//! is locked.
+//! Three threads serve a connection: one reads its requests and answers them, one sends its events if that may block, and
+//! one watches its stream while a request waits for a lock. One thread of the server, the dispatcher, sends the other
+//! events of all connections. The threads that send share the sink, whose lock is never taken while the book is locked.
 
 #![tactic(auto)]
 

@@ -1,4 +1,4 @@
-//! What is sent on one connection: replies, and the events that wait for it.
+//! The writing end of a connection, for replies and events.
 
 use crate::answers::Unwritten;
 use crate::dispatcher::Dispatcher;
@@ -19,30 +19,31 @@ use tab_sink::kept::KEPT;
 /// The thread that sends a connection's events.
 #[derive(Clone, Copy, Debug, PartialEq, Eq)]
 enum Turn {
-    /// The dispatcher, without a wait.
+    /// The dispatcher, which never blocks.
     Dispatcher,
-    /// The connection's own thread, which may wait.
+    /// The connection's own thread, which may block.
     Own,
-    /// The connection's own thread, until nothing is left: the session has left.
+    /// The connection's own thread for the last time, since the session has left.
     Last,
 }
 
-/// The events that wait for a connection.
+/// The events that wait to be sent on a connection.
 #[derive(Drop)]
 struct Mail<H: Host> {
     inbox: Inbox<H>,
-    /// What was taken from the inbox: frames, and after them an item that is too long to be kept whole.
+    /// The frames of items from the inbox, and the item after them if it is too long to be kept whole.
     frames: Vec<u8>,
     long: Option<SharedItem>,
-    /// So many items were taken since the inbox was found empty.
+    /// The number of items that were taken since the inbox was found empty.
     taken: usize,
     turn: Turn,
-    /// Whether no memory was found for an event.
+    /// True if memory was refused for an event.
     failed: bool,
 }
 
-/// A connection's writing end. Its events are sent by the dispatcher, as long as the connection takes them without a wait; what
-/// may wait is for the connection's own thread: a connection that is full, a long item, and the question for an overflow.
+/// The writing end of a connection. The dispatcher sends its events as long as the connection takes them without
+/// blocking. The connection's own thread sends if the connection is full or an item is long. It also asks the book for an
+/// overflow.
 #[derive(Drop)]
 pub struct Line<H: Host> {
     pub sink: FrameSink<TcpStream>,
@@ -50,12 +51,12 @@ pub struct Line<H: Host> {
     delivery: Delivery,
     mail: Mutex<Mail<H>>,
     changed: Condvar,
-    /// Whether the session has ever subscribed.
+    /// True if the session has ever subscribed.
     watches: AtomicBool,
 }
 
 impl<H: Host> Line<H> {
-    /// Nothing is sent yet.
+    /// Creates the writing end of a connection on which nothing is sent yet.
     pub fn new(
         alloc: Global,
         writer: TcpStream,
@@ -80,28 +81,28 @@ impl<H: Host> Line<H> {
         }
     }
 
-    /// The session's number.
+    /// Returns the session's number.
     pub fn session(&self) -> u32 {
         self.seat.session()
     }
 
-    /// The session subscribes. Returns whether it has never before.
+    /// Records that the session subscribes. Returns whether it does for the first time.
     pub fn begin_watching(&self) -> bool {
         !self.watches.swap(true, Ordering::SeqCst)
     }
 
-    /// Whether the session has ever subscribed.
+    /// Returns whether the session has ever subscribed.
     pub fn watches(&self) -> bool {
         self.watches.load(Ordering::SeqCst)
     }
 
-    /// The session has left: the connection's own thread sends what is left, and ends.
+    /// Records that the session has left. The connection's own thread sends the remaining events, and ends.
     pub fn end<R: Wait>(&self, rt: &R) {
         self.mail.lock(rt).turn = Turn::Last;
         self.changed.notify_all();
     }
 
-    /// Sends what waits, without a wait. True if more waits that may be sent so.
+    /// Sends the waiting events without blocking, if it is the dispatcher's turn. Returns true if more may wait.
     pub fn send_now<N: Notes>(&self, host: &H, outbox: usize, notes: &N) -> bool {
         let Some(mut mail) = self.mail.try_lock() else {
             return false;
@@ -148,8 +149,8 @@ impl<H: Host> Line<H> {
         gathered
     }
 
-    /// Sends in the connection's own thread, whenever it is its turn, until the session has left and nothing is left, or a
-    /// write fails, or no memory is found for an event.
+    /// Sends events in the connection's own thread whenever it is its turn. It ends after the session has left and all events
+    /// are sent, or if a write fails, or if memory is refused for an event.
     pub fn send_turns<N: Notes>(
         &self,
         host: &H,
@@ -171,12 +172,12 @@ impl<H: Host> Line<H> {
             }
             mail.turn = Turn::Dispatcher;
             drop(mail);
-            // What has come since the inbox was found empty is for the dispatcher.
+            // The dispatcher sends the items that have come since the inbox was found empty.
             dispatcher.ring();
         }
     }
 
-    /// Sends in the connection's own thread only, which waits for events, until the session has left and nothing is left.
+    /// Sends all events in the connection's own thread, without the dispatcher, until `event_loop` ends.
     pub fn send_alone<N: Notes>(&self, host: &H, alloc: Global, shared: &Shared<H>, notes: &N) {
         let mut mail = self.mail.lock(host);
         event_loop(
@@ -217,19 +218,20 @@ impl<H: Host> Line<H> {
     }
 }
 
-/// How far the events of a connection were sent without a wait.
+/// The result of taking or sending a connection's events without blocking.
 #[derive(Clone, Copy, Debug, PartialEq, Eq)]
 enum Progress {
-    /// All that waited.
+    /// The inbox was found empty.
     Done,
-    /// More waits.
+    /// The inbox may have more items.
     More,
     /// The connection's own thread has to go on.
     Stuck,
 }
 
 impl<H: Host> Mail<H> {
-    /// Takes what waits and may be kept whole, until some are sent at once.
+    /// Takes items from the inbox and keeps their frames, until there are enough to send, or the inbox is empty, or the
+    /// connection's own thread has to go on.
     fn gather<N: Notes>(
         &mut self,
         host: &H,

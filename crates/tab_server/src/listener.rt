@@ -31,7 +31,8 @@ pub struct Accepted {
 }
 
 impl Listener {
-    /// What ends the accepting, once it is shut down for reading. An error if no descriptor is left for it.
+    /// Returns a stream that shares the listener's socket. Its shutdown for reading ends the accepting. An error is returned if
+    /// no descriptor is left.
     pub fn door(&self) -> io::Result<TcpStream> {
         let descriptor = match self {
             Listener::Tcp(listener) => OwnedFd::from(listener.try_clone()?),

@@ -1,20 +1,20 @@
-//! Whether a session's steps may have put items into mailboxes.
+//! Detection of steps that may put items into mailboxes.
 
 use std::mem;
 use tab_book::{TransactionEnd, Transition};
 use tab_model::{Command, Operation};
 
-/// Whether the steps of one hold of the book may have put items: a commit may if its transaction has asked for a write, and so
-/// may a command on a table and one on a subscription.
+/// Records whether the session's steps since the last `take` may have put items into mailboxes. A commit may if its
+/// transaction has requested a write. A schema command may, and one that begins or ends a subscription.
 #[derive(Clone, Copy, Debug)]
 pub struct Puts {
-    /// Whether the open transaction has asked for a write.
+    /// True if the open transaction has requested a write.
     writes: bool,
     may_have: bool,
 }
 
 impl Puts {
-    /// No step was made.
+    /// Creates the state before the first step.
     pub fn new() -> Puts {
         Puts {
             writes: false,
@@ -22,7 +22,7 @@ impl Puts {
         }
     }
 
-    /// A command is asked.
+    /// Records a command before its step.
     pub fn ask(&mut self, command: &Command) {
         match command {
             Command::Do(Operation::Write(_) | Operation::Delete(..) | Operation::DeleteObject(_)) =>
@@ -33,14 +33,14 @@ impl Puts {
         }
     }
 
-    /// A step is made, with this effect on the transaction.
+    /// Records the effect of a step on the transaction.
     pub fn step(&mut self, transaction: Transition) {
         let commits = matches!(transaction.ended, Some(TransactionEnd::Commit));
         self.may_have |= commits && self.writes;
         self.writes &= transaction.after > 0;
     }
 
-    /// Whether items may have been put since this was asked last.
+    /// Returns whether items may have been put since the last call.
     pub fn take(&mut self) -> bool {
         mem::replace(&mut self.may_have, false)
     }

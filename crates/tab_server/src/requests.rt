@@ -36,8 +36,9 @@ pub struct Requests<'a, H: Host, G: Gate> {
     pub shared: &'a Shared<H>,
     pub seat: Seat,
     pub watch: &'a Watch,
-    /// Where the session's events are sent, and by which thread.
+    /// The connection's writing end.
     pub line: &'a Line<H>,
+    /// The thread that sends the events of all connections.
     pub dispatcher: &'a Dispatcher<H>,
     pub answers: Answers<'a, TcpStream, G>,
     pub held: Held<'a, H>,

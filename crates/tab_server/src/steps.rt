@@ -83,7 +83,8 @@ impl<'a, H: Host, G: Gate> Requests<'a, H, G> {
         told
     }
 
-    /// The reply to a command whose step has this one: that of its wait, if it has to wait and no abort ends that.
+    /// Returns the reply of a step, or if that is `Waiting` the reply after the wait. If an abort or a failed write ends the
+    /// wait, it returns `Waiting`.
     fn settled(&mut self, told: SharedReply) -> SharedReply
         ensures reply { IsSettled self.old.seat told result }
         ensures seat { self.new.seat ≡ self.old.seat }
@@ -114,8 +115,8 @@ impl<'a, H: Host, G: Gate> Requests<'a, H, G> {
         }
     }
 
-    /// Unlocks the book, and counts what the steps since it was locked did. The events that they may have put are sent
-    /// from here on.
+    /// Unlocks the book, and counts the effects of the steps since it was locked. If they may have put items into mailboxes,
+    /// it rings the dispatcher.
     pub fn give_back(&mut self)
         ensures { self.new.seat ≡ self.old.seat }
     {

@@ -1,4 +1,4 @@
-//! A writer that frames are written to, with or without a wait.
+//! The device of a sink, which writes with or without blocking.
 
 ghost use Rattle.std.specs.Prelude.{◌≡◌, ◌+◌, ◌≤◌, min, length, IfOk, OnOk, OnErr};
 ghost use Rattle.std.specs.Io.{WritesAtMost};
@@ -10,9 +10,9 @@ use std::net::TcpStream;
 use std::os::fd::AsRawFd;
 use tab_etf::{Broken, Target};
 
-/// A writer that can also write without a wait.
+/// A writer that can also write without blocking.
 pub trait WriteNow: Write {
-    /// Writes a beginning of the bytes, as much as is taken without a wait. That may be none.
+    /// Writes as many of the first bytes as the writer takes without blocking, perhaps none.
     fn write_now(&mut self, buf: &[u8]) -> io::Result<usize>
         ensures bound { WritesAtMost result buf.now }
         ensures bytes { WriteAppends (Self.Write.contents self.old)
@@ -33,7 +33,7 @@ impl WriteNow for TcpStream {
     }
 }
 
-/// A writer, and how often it has failed: by an error, or by a write that waits and takes none of some bytes.
+/// A writer, and the number of its faults. A fault is an error, or a blocking write that takes none of some bytes.
 #[derive(Drop)]
 pub struct Device<W> {
     inner: W,
@@ -42,7 +42,7 @@ pub struct Device<W> {
 }
 
 impl<W> Device<W> {
-    /// The device around this writer: no fault is counted.
+    /// Creates a device for this writer, without a fault.
     pub fn new(inner: W) -> Device<W>
         ensures inner { result.inner ≡ inner }
         ensures faults { result.faults ≡ 0 }
@@ -91,7 +91,7 @@ impl<W: Write> Target for Device<W> {
 }
 
 impl<W: WriteNow> Device<W> {
-    /// One write without a wait, which may take none.
+    /// Makes one write without blocking, which may take no byte.
     pub fn give_now(&mut self, bytes: &[u8]) -> Result<usize, Broken>
         ensures bound { IfOk result (λ n. n ≤ length bytes.now) }
         ensures bytes { WriteAppends (W.contents self.old.inner) (W.contents self.new.inner) result

@@ -21,7 +21,8 @@ use std::sync::{Mutex, MutexGuard, Wait};
 pub use stream::{RequestStream, Senders};
 use tab_etf::{Broken, give_all};
 
-/// A device that frames are written to, until it fails. What a write without a wait has left is written before all else.
+/// A device that frames are written to, until it fails. The bytes that remain after a non-blocking write are written
+/// before any others.
 #[derive(Drop)]
 pub struct Sink<W> {
     device: Device<W>,
@@ -43,8 +44,8 @@ impl<W: Write> Sink<W> {
         }
     }
 
-    /// Writes what is left, and then frames, or the next piece of one. Once a write has failed nothing is written any more: of
-    /// the bytes in which it failed a beginning is.
+    /// Writes the remaining bytes, and then frames, or the next piece of one. After a failed write nothing more is written: of
+    /// the bytes of that call only a beginning is written.
     pub fn put(&mut self, frames: &[u8]) -> Result<(), Broken>
         ensures ok { OnOk result
             ((IsFalse self.old.broken) × (IsFalse self.new.broken) × (rest_of self.new.rest ≡ [])
@@ -66,7 +67,7 @@ impl<W: Write> Sink<W> {
         self.put_frames(frames)
     }
 
-    /// Writes frames, after what was left.
+    /// Writes frames, after the remaining bytes were written.
     fn put_frames(&mut self, frames: &[u8]) -> Result<(), Broken>
         ensures ok { OnOk result
             ((IsFalse self.new.broken) × (self.new.rest ≡ self.old.rest)
@@ -84,7 +85,7 @@ impl<W: Write> Sink<W> {
         put
     }
 
-    /// Writes what is left.
+    /// Writes the remaining bytes.
     fn put_rest(&mut self) -> Result<(), Broken>
         ensures ok { OnOk result
             ((self.new.broken ≡ self.old.broken) × (rest_of self.new.rest ≡ [])
@@ -107,8 +108,9 @@ impl<W: Write> Sink<W> {
 }
 
 impl<W: WriteNow> Sink<W> {
-    /// Writes what is left, and then frames, as much as is taken without a wait. True if all is written. Of frames that are begun
-    /// the sink keeps what is left; frames that are not begun stay.
+    /// Writes the remaining bytes, and then frames, as far as the device takes them without blocking. Returns true if all is
+    /// written. After the last remaining byte the sink takes over the frames: it empties `frames`, and keeps the bytes that are
+    /// not written. Otherwise `frames` is unchanged.
     pub fn put_now(&mut self, frames: &mut Vec<u8>) -> Result<bool, Broken>
         ensures ok { OnOk result
             ((IsFalse self.old.broken) × (IsFalse self.new.broken)
@@ -139,7 +141,7 @@ impl<W: WriteNow> Sink<W> {
         self.put_frames_now(frames)
     }
 
-    /// Writes what is left, as much as is taken without a wait. True if all is written.
+    /// Writes the remaining bytes, as far as the device takes them without blocking. Returns true if all are written.
     fn put_rest_now(&mut self) -> Result<bool, Broken>
         ensures ok { OnOk result
             ((self.new.broken ≡ self.old.broken)
@@ -174,7 +176,8 @@ impl<W: WriteNow> Sink<W> {
         Ok(false)
     }
 
-    /// Writes frames, of which nothing is begun, as much as is taken without a wait. Nothing is left of others.
+    /// Writes frames, as far as the device takes them without blocking, and keeps the bytes that are not written. Returns true
+    /// if all is written. No bytes of earlier frames may remain.
     fn put_frames_now(&mut self, frames: &mut Vec<u8>) -> Result<bool, Broken>
         requires { rest_of self.old.rest ≡ [] }
         ensures ok { OnOk result
@@ -210,14 +213,14 @@ impl<W: WriteNow> Sink<W> {
     }
 }
 
-/// A sink that threads share.
+/// A sink that several threads share.
 #[derive(Drop)]
 pub struct FrameSink<W> {
     sink: Mutex<Sink<W>>,
 }
 
 impl<W: Write> FrameSink<W> {
-    /// A device that has not failed, for several threads.
+    /// Creates a sink for several threads, whose device has not failed.
     pub fn new(writer: W) -> FrameSink<W> {
         FrameSink {
             sink: Mutex::new(Sink::new(writer)),
@@ -241,7 +244,8 @@ impl<W: Write> FrameSink<W> {
 }
 
 impl<W: WriteNow> FrameSink<W> {
-    /// Writes whole frames without a wait. True if all is written. If it isn't, and frames are empty, the sink keeps what is left.
+    /// Writes whole frames without blocking. Returns true if all is written. If it returns false and `frames` is empty, the sink
+    /// keeps the bytes that are not written; if `frames` is not empty, none of it is written.
     pub fn try_send(&self, frames: &mut Vec<u8>) -> Result<bool, Broken> {
         match self.sink.try_lock() {
             Some(mut sink) => sink.put_now(frames),

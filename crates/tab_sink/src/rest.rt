@@ -1,8 +1,8 @@
-//! Frames that were not written whole.
+//! Frames that are not written whole yet.
 
 ghost use Rattle.std.specs.Prelude.{◌≤◌, length};
 
-/// Frames of which the bytes from `from` on are not written yet.
+/// Frames whose bytes from index `from` on are not written yet.
 #[derive(Drop)]
 pub struct Rest {
     pub(crate) frames: Vec<u8>,

@@ -88,7 +88,7 @@ impl<'a> RequestStream<'a> {
         }
     }
 
-    /// What comes soon.
+    /// Polls the stream for bytes. Returns None if none come within `TURNS` reads, or if it may not poll.
     fn poll(&self, buf: &mut [u8]) -> Option<io::Result<usize>>
         ensures { IfSome result (λ read. ReadsAtMost read buf.new) }
     {
@@ -109,7 +109,7 @@ impl<'a> RequestStream<'a> {
     }
 }
 
-/// One read without a wait. None if nothing is there.
+/// Reads once without blocking. Returns None if no bytes are there.
 fn read_now(stream: &TcpStream, buf: &mut [u8]) -> Option<io::Result<usize>>
     ensures { IfSome result (λ read. ReadsAtMost read buf.new) }
 {

@@ -49,7 +49,7 @@ pub struct Service {
     pub slow: Option<u32>,
     /// An abort ends the wait of the operation before it, which has no reply then.
     pub aborts: bool,
-    /// The end of standard input ends the server.
+    /// True if the end of standard input ends the server.
     pub drains: bool,
     /// The most seconds that a transaction may be open.
     pub limit: Option<u32>,

@@ -1,4 +1,4 @@
-//! A server that ends with its standard input.
+//! A server that ends after the end of its standard input.
 
 use crate::Ended;
 use crate::ending::End;
@@ -16,35 +16,35 @@ use tab_post::Host;
 use tab_server::{Gate, Notes};
 use tab_words::Service;
 
-/// So many seconds open transactions go on at most, if the words set no time.
+/// The most seconds that an open transaction goes on after the end of standard input, without `--idle`.
 const PATIENCE: u32 = 10;
 
-/// After so many more, nothing is written either to a client that has not gone.
+/// The seconds from then on until connections are shut down for writing too.
 const GRACE: u64 = 2;
 
-/// What reports the end of standard input, and has the connections.
+/// The standard input of a server, and its connections.
 pub trait Drained: Paged {
-    /// Returns at the end of standard input, or when it can't be read.
+    /// Waits until standard input ends, or a read of it fails.
     fn wait_for_end(&self);
 
     fn roster(&self) -> &Roster;
 
-    /// So many seconds a session may be idle.
+    /// The most seconds that a session may be idle.
     fn idle(&self) -> Option<u32>;
 }
 
-/// What is ended of a connection.
+/// The part of the connections that is ended.
 #[derive(Clone, Copy, Debug, PartialEq, Eq)]
 enum Stage {
-    /// What is read by a session without a transaction.
+    /// The reading of requests, for sessions without an open transaction.
     Settled,
-    /// What is read by any session.
+    /// The reading of requests, for all sessions.
     All,
-    /// What is written too.
+    /// The reading and the writing, for all sessions.
     Writes,
 }
 
-/// Serves clients until standard input ends, and then until all sessions have ended.
+/// Serves clients until standard input has ended, and then until all sessions have ended.
 pub fn serve_until_end<H, W, G>(
     host: &H,
     alloc: Global,
@@ -72,8 +72,8 @@ where
     })
 }
 
-/// Ends the accepting with standard input, and then each connection: of a session with a transaction after so many seconds at
-/// the latest.
+/// Waits for the end of standard input. Then it ends the accepting and the connections: without an open transaction at once,
+/// and with one after `--idle` or `PATIENCE` seconds at the latest.
 fn drain<H: Host, G: Drained>(
     host: &H,
     _alloc: Global,
@@ -86,7 +86,7 @@ fn drain<H: Host, G: Drained>(
     gate.roster().close();
     let _shut = door.shutdown(Shutdown::Read);
     let patience = u64::from(gate.idle().unwrap_or(PATIENCE));
-    // With no clock, the time is over.
+    // The seconds count as over if the clock can't be read.
     let begun = gate.now().unwrap_or(Duration::ZERO);
     for _ in host.forever() {
         let sessions = gate.roster().sessions(host);
@@ -109,7 +109,7 @@ fn stage(age: u64, patience: u64) -> Stage {
     }
 }
 
-/// So many seconds have passed since then.
+/// The seconds since `begun`; the greatest number if the clock can't be read.
 fn age<P: Paged>(paged: &P, begun: Duration) -> u64 {
     match paged.now() {
         Ok(now) => now.saturating_sub(begun).as_secs(),

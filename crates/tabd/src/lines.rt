@@ -19,8 +19,9 @@ pub struct Told {
     pub log: Log,
     pub meters: Option<Meters>,
     pub slow: Option<u32>,
-    /// Whether the end of standard input ends connections, and how many seconds a session may be idle.
+    /// True if the end of standard input ends connections.
     pub drains: bool,
+    /// The most seconds that a session may be idle.
     pub idle: Option<u32>,
 }
 
@@ -79,7 +80,7 @@ impl<R: Wait, E: Target, I: Source> Lines<R, E, I> {
         let _told = give_all(&mut *device, line.as_bytes());
     }
 
-    /// Of a session, with the address of its client if that has one.
+    /// Writes a line of a session, with the address of its client if it has one.
     fn put_of(&self, session: u32, what: &str) {
         let line = match self.roster.peer(&self.rt, session) {
             Some(peer) => format!(in self.alloc; "tabd: session {session} ({peer}) {what}\n"),
@@ -193,7 +194,7 @@ impl<R: Wait + Clock, E: Target, I: Source> Slow for Lines<R, E, I> {
     }
 }
 
-/// So many bytes are read of the input at once, of which nothing is kept.
+/// The most bytes of one read of standard input. They are dropped.
 const PIECE: usize = 4_096;
 
 impl<R: Wait + Clock, E: Target, I: Source> Drained for Lines<R, E, I> {

@@ -45,7 +45,7 @@ fn settings(delivery: Delivery, idle: Option<u32>, aborts: bool) -> Settings
 #[derive(Drop)]
 pub struct Listening<'a> {
     clients: &'a Listener,
-    /// What ends the accepting of clients, if the end of standard input does.
+    /// A stream whose shutdown ends the accepting of clients, with `--drain`.
     door: Option<TcpStream>,
     pages: Option<TcpListener>,
     lines: String,
@@ -114,7 +114,7 @@ where
     }
 }
 
-/// Listens for clients of the pages, if they are wanted.
+/// Opens the listener for clients of the pages and the door, if the options ask for them, and makes the lines.
 fn listen_for_pages<'a, R, N>(
     rt: &R,
     alloc: Global,
@@ -217,7 +217,7 @@ where
     })
 }
 
-/// Prints the lines, and serves clients; until standard input ends, if that is wanted.
+/// Prints the lines, and serves clients; with `--drain` until standard input ends.
 fn say_and_serve<H, W, G>(
     host: &H,
     alloc: Global,
@@ -238,7 +238,7 @@ where
     }
 }
 
-/// Prints the lines, and serves clients. Everything that serving needs exists before.
+/// Prints the lines, and serves clients. The listeners and the book are created before.
 pub fn serve_said<H, W, G>(
     host: &H,
     alloc: Global,
@@ -266,7 +266,7 @@ fn say<W: Target>(output: &mut W, lines: &str) -> Result<(), Broken> {
     output.flush()
 }
 
-/// Serves them until all sessions have ended, or for good.
+/// Serves clients until the accepting and all sessions have ended. With `--slow` a thread reports slow transactions.
 fn serve_clients<H: Host + Threads + Send + Sync, G: Gate + Notes + Slow + Sync>(
     host: &H,
     alloc: Global,
@@ -281,7 +281,7 @@ fn serve_clients<H: Host + Threads + Send + Sync, G: Gate + Notes + Slow + Sync>
     serve_plainly(host, alloc, clients, shared, service, gate)
 }
 
-/// The same without a thread that looks for slow transactions.
+/// Serves clients without a thread that looks for slow transactions.
 pub fn serve_plainly<H: Host + Threads + Send + Sync, G: Gate + Notes + Sync>(
     host: &H,
     alloc: Global,

@@ -1,4 +1,4 @@
-//! Transactions that are open for long.
+//! Reports of transactions that are open for long.
 
 use crate::Ended;
 use crate::ending::End;
@@ -12,12 +12,12 @@ use tab_post::Host;
 use tab_server::{Gate, Listener, Notes};
 use tab_words::Service;
 
-/// What has a line for each transaction that is open for long.
+/// Reports each transaction that is open for long, once.
 pub trait Slow {
-    /// Whether some transaction is, and has no line yet.
+    /// Returns whether such a transaction is not reported yet.
     fn any_is_late(&self) -> bool;
 
-    /// A line for the session's transaction with its locks, if it is and has none yet.
+    /// Reports the session's transaction with its locks, if it is open for long and not reported yet.
     fn report_late(&self, activity: &Activity);
 }
 
@@ -46,7 +46,7 @@ where
     })
 }
 
-/// Looks for them until the server has ended. The book is locked only if one is found.
+/// Looks for such transactions until the server has ended. It locks the book only if it finds one.
 fn watch<H: Host, G: Slow>(host: &H, shared: &Shared<H>, gate: &G, closing: &Closing) {
     for _ in host.forever() {
         if closing.is_over() {
@@ -59,7 +59,7 @@ fn watch<H: Host, G: Slow>(host: &H, shared: &Shared<H>, gate: &G, closing: &Clo
     }
 }
 
-/// If memory is refused, they are looked for again.
+/// Reports such transactions. If memory is refused for the activities of the sessions, the next look reports them.
 fn report<H: Host, G: Slow>(host: &H, shared: &Shared<H>, gate: &G) {
     let Ok(activities) = shared.hold(host).activities() else {
         return;
