@@ -16,6 +16,8 @@ struct Open {
     since: Option<Instant>,
     /// True if it was reported as open for long.
     reported: bool,
+    /// True if its session is being ended.
+    ended: bool,
 }
 
 /// The constants of a server's run.
@@ -160,6 +162,7 @@ impl Meters {
             session,
             since,
             reported: false,
+            ended: false,
         });
     }
 
@@ -198,6 +201,19 @@ impl Meters {
             }
         }
         None
+    }
+
+    /// Returns the sessions whose transaction is open for at least `most` seconds, each once, with these seconds.
+    pub fn take_over<R: Wait + Clock>(&self, rt: &R, most: u64) -> ArrayVec<(u32, u64), SESSIONS> {
+        let mut over = ArrayVec::new();
+        for open in self.open.lock(rt).iter_mut() {
+            let age = seconds(rt, Some(*open));
+            if !open.ended && age >= most {
+                open.ended = true;
+                let _kept = over.try_push((open.session, age));
+            }
+        }
+        over
     }
 
     /// The number of open transactions.

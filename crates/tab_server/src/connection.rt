@@ -5,7 +5,7 @@ use crate::gate::Notes;
 use crate::line::Line;
 use crate::listener::{Accepted, Family};
 use crate::next::{Next, next_on};
-use crate::settings::Settings;
+use crate::settings::{Settings, duration};
 use crate::troubles::pause;
 use crate::watch::Watch;
 use std::alloc::{AllocError, Global};
@@ -14,28 +14,25 @@ use std::net::TcpStream;
 use std::sync::{Arc, Wait};
 use tab_book::{Seat, Shared};
 use tab_post::{Host, Inbox};
-use tab_proto::Delivery;
 
 /// A connection's stream, and what is written to it.
 #[derive(Drop)]
 pub struct Connection<H: Host> {
     pub line: Arc<Line<H>, Global>,
     pub watch: Watch,
-    /// True if an abort ends the wait of the operation before it.
-    pub aborts: bool,
+    pub settings: Settings,
     pub stream: TcpStream,
     family: Family,
 }
 
-/// A connection's stream, once to read from it, once to write to it and once to watch it, and how events are sent on it.
+/// A connection's stream, once to read from it, once to write to it and once to watch it, with its settings.
 #[derive(Drop)]
 pub struct Streams {
     reader: TcpStream,
     writer: TcpStream,
     stream: TcpStream,
     family: Family,
-    delivery: Delivery,
-    aborts: bool,
+    settings: Settings,
 }
 
 impl Streams {
@@ -43,17 +40,14 @@ impl Streams {
     pub fn of(accepted: Accepted, settings: Settings) -> io::Result<Streams> {
         let Accepted { stream, family } = accepted;
         family.set_nodelay(&stream);
-        if settings.idle.is_some() {
-            stream.set_read_timeout(settings.idle)?;
-            stream.set_write_timeout(settings.idle)?;
-        }
+        stream.set_read_timeout(duration(settings.tick()))?;
+        stream.set_write_timeout(duration(settings.idle))?;
         Ok(Streams {
             reader: stream.try_clone()?,
             writer: stream.try_clone()?,
             stream,
             family,
-            delivery: settings.delivery,
-            aborts: settings.aborts,
+            settings,
         })
     }
 
@@ -64,8 +58,7 @@ impl Streams {
             writer,
             stream: _,
             family: _,
-            delivery: _,
-            aborts: _,
+            settings: _,
         } = self;
         writer
     }
@@ -84,14 +77,13 @@ impl<H: Host> Connection<H> {
             writer,
             stream,
             family,
-            delivery,
-            aborts,
+            settings,
         } = streams;
-        let line = Line::new(alloc, writer, seat, inbox, delivery);
+        let line = Line::new(alloc, writer, seat, inbox, settings.delivery);
         let connection = Connection {
             line: Arc::new(alloc, line)?,
             watch: Watch::new(),
-            aborts,
+            settings,
             stream,
             family,
         };

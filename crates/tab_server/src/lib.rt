@@ -19,6 +19,7 @@ mod place;
 mod puts;
 mod requests;
 mod settings;
+mod silence;
 mod steps;
 mod transactions;
 mod troubles;

@@ -10,6 +10,7 @@ use crate::gate::{Count, Gate};
 use crate::line::Line;
 use crate::place::Place;
 use crate::puts::Puts;
+use crate::silence::Silence;
 use crate::steps::Behind;
 use crate::transactions::Transactions;
 use crate::watch::Watch;
@@ -47,6 +48,7 @@ pub struct Requests<'a, H: Host, G: Gate> {
     /// The position of the stream, and whether the frame there is skipped.
     pub place: Place,
     pub skips: bool,
+    pub silence: Silence,
     /// True if an abort ends the wait of the operation before it.
     pub aborts: bool,
     /// The end of the current command's wait, and whether an abort has ended it.
@@ -59,7 +61,7 @@ pub struct Requests<'a, H: Host, G: Gate> {
 pub enum Ending {
     /// No more came, or they could not be read or answered.
     Over,
-    /// Its transaction was open, and none came in time.
+    /// None came in time.
     Idle,
 }
 
@@ -90,7 +92,8 @@ pub fn serve_session<H: Host, R: Read, G: Gate>(
         puts: Puts::new(),
         place: Place::new(),
         skips: false,
-        aborts: connection.aborts,
+        silence: Silence::new(connection.settings),
+        aborts: connection.settings.aborts,
         behind: Behind::Nothing,
         aborted: false,
     };
@@ -127,11 +130,12 @@ impl<'a, H: Host, G: Gate> Requests<'a, H, G> {
             match reader.read(&mut piece) {
                 Ok(0) => return Ok(Ending::Over),
                 Ok(count) => {
+                    self.silence.end();
                     self.answers.counts().count(Count::Read, count as u64);
                     self.piece(&mut splitter, &piece[..count])?;
                 }
                 Err(error) if matches!(error.kind(), ErrorKind::WouldBlock) => {
-                    if self.ends_transaction() {
+                    if self.is_silent() {
                         return Ok(Ending::Idle);
                     }
                 }
@@ -141,6 +145,13 @@ impl<'a, H: Host, G: Gate> Requests<'a, H, G> {
             }
         }
         unreachable!()
+    }
+
+    /// Notes that a read has ended without bytes. Returns whether the session leaves since it is idle.
+    fn is_silent(&mut self) -> bool {
+        self.silence.pass();
+        self.silence.ends_sessions() && !self.line.watches()
+            || self.silence.ends_transactions() && self.ends_transaction()
     }
 
     /// Ends the transaction, and returns whether one was open. The reply to an abort shows it, and it changes nothing

@@ -1,5 +1,8 @@
 //! How connections are served.
 
+ghost use Rattle.std.specs.Prelude.{◌≡◌, ◌*◌, option_map};
+ghost use Rattle.std.specs.Duration.{as_nanos};
+
 use std::time::Duration;
 use tab_proto::Delivery;
 
@@ -9,7 +12,7 @@ pub struct Settings {
     pub delivery: Delivery,
     /// A session from which nothing comes for so many seconds leaves if its transaction is open, or if it reads nothing.
     pub idle: Option<u32>,
-    /// A session that has never subscribed, and from which nothing comes for so many seconds, leaves.
+    /// A session that has never subscribed leaves if nothing comes from it for so many seconds.
     pub idle_sessions: Option<u32>,
     /// An abort ends the wait of the operation before it, which has no reply then.
     pub aborts: bool,
@@ -23,4 +26,23 @@ impl Settings {
         idle_sessions: None,
         aborts: false,
     };
+
+    /// The seconds after which a read without bytes ends: those of the only limit, or one if there are two.
+    pub(crate) fn tick(&self) -> Option<u32> {
+        match (self.idle, self.idle_sessions) {
+            (Some(_), Some(_)) => Some(1),
+            (Some(seconds), None) | (None, Some(seconds)) => Some(seconds),
+            (None, None) => None,
+        }
+    }
+}
+
+/// The duration of so many seconds.
+pub(crate) fn duration(seconds: Option<u32>) -> Option<Duration>
+    ensures { option_map as_nanos result ≡ option_map (λ s. s * 1000000000) seconds }
+{
+    match seconds {
+        Some(seconds) => Some(Duration::from_secs(u64::from(seconds))),
+        None => None,
+    }
 }

@@ -2,7 +2,7 @@
 
 use crate::Ended;
 use crate::ending::End;
-use crate::serving::{Listening, serve_said};
+use crate::serving::{Listening, serve_timed};
 use crate::slow::Slow;
 use std::alloc::Global;
 use std::net::{Shutdown, TcpStream};
@@ -24,6 +24,12 @@ const GRACE: u64 = 2;
 
 /// The standard input of a server, and its connections.
 pub trait Drained: Paged {
+    /// Clients are served from now on.
+    fn begin_serving(&self);
+
+    /// Returns whether clients are served.
+    fn has_begun(&self) -> bool;
+
     /// Waits until standard input ends, or a read of it fails.
     fn wait_for_end(&self);
 
@@ -62,11 +68,11 @@ where
 {
     let closing = &Closing::new();
     thread::scope(thread::scope_env(), host, |scope| {
-        let started = scope.spawn(move || drain(host, alloc, door, shared, gate, closing));
+        let started = scope.spawn(move || drain(host, door, shared, gate, closing));
         if started.is_err() {
             return End::Stopped(Ended::NoMemory);
         }
-        let end = serve_said(host, alloc, listening, shared, service, output, gate);
+        let end = serve_timed(host, alloc, listening, shared, service, output, gate);
         closing.close();
         end
     })
@@ -76,12 +82,14 @@ where
 /// and with one after `--idle` or `PATIENCE` seconds at the latest.
 fn drain<H: Host, G: Drained>(
     host: &H,
-    _alloc: Global,
     door: &TcpStream,
     shared: &Shared<H>,
     gate: &G,
     closing: &Closing,
 ) {
+    if !waits_to_serve(host, gate, closing) {
+        return;
+    }
     gate.wait_for_end();
     gate.roster().close();
     let _shut = door.shutdown(Shutdown::Read);
@@ -97,6 +105,20 @@ fn drain<H: Host, G: Drained>(
         end_connections(host, shared, gate, &sessions, stage);
         closing.pause(host);
     }
+}
+
+/// Waits until clients are served. Returns false if the server ends before.
+fn waits_to_serve<H: Host, G: Drained>(host: &H, gate: &G, closing: &Closing) -> bool {
+    for _ in host.forever() {
+        if gate.has_begun() {
+            return true;
+        }
+        if closing.is_over() {
+            return false;
+        }
+        closing.pause(host);
+    }
+    unreachable!()
 }
 
 fn stage(age: u64, patience: u64) -> Stage {

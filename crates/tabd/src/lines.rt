@@ -4,7 +4,8 @@ use crate::draining::Drained;
 use crate::slow::Slow;
 use std::alloc::{AllocError, Global};
 use std::io;
-use std::net::TcpStream;
+use std::net::{Shutdown, TcpStream};
+use std::sync::atomic::{AtomicBool, Ordering};
 use std::sync::{Mutex, Wait};
 use std::time::{Clock, Duration};
 use tab_book::Activity;
@@ -19,6 +20,8 @@ pub struct Told {
     pub log: Log,
     pub meters: Option<Meters>,
     pub slow: Option<u32>,
+    /// The most seconds that a transaction may be open.
+    pub limit: Option<u32>,
     /// True if the end of standard input ends connections.
     pub drains: bool,
     /// The most seconds that a session may be idle.
@@ -38,9 +41,13 @@ pub struct Lines<R, E, I> {
     meters: Option<Meters>,
     /// A transaction that was open for so many seconds has a line.
     slow: Option<u32>,
+    /// The most seconds that a transaction may be open.
+    limit: Option<u32>,
     roster: Roster,
     idle: Option<u32>,
     input: Mutex<I>,
+    /// True if clients are served.
+    begun: AtomicBool,
 }
 
 impl<R: Wait, E: Target, I: Source> Lines<R, E, I> {
@@ -50,6 +57,7 @@ impl<R: Wait, E: Target, I: Source> Lines<R, E, I> {
             log,
             meters,
             slow,
+            limit,
             drains,
             idle,
         } = told;
@@ -61,9 +69,11 @@ impl<R: Wait, E: Target, I: Source> Lines<R, E, I> {
             reason: Mutex::new(None),
             meters,
             slow,
-            roster: Roster::new(drains),
+            limit,
+            roster: Roster::new(drains || limit.is_some()),
             idle,
             input: Mutex::new(input),
+            begun: AtomicBool::new(false),
         }
     }
 
@@ -181,15 +191,27 @@ impl<R: Wait + Clock, E: Target, I: Source> Slow for Lines<R, E, I> {
         let (Some(meters), Some(least)) = (&self.meters, self.slow) else {
             return;
         };
+        let Ok(text) = transaction_text(self.alloc, activity) else {
+            return;
+        };
         let session = activity.session;
         let Some(seconds) = meters.take_late(&self.rt, session, u64::from(least)) else {
             return;
         };
-        let Ok(text) = transaction_text(self.alloc, activity) else {
-            return;
-        };
         if let Ok(what) = format!(in self.alloc; "has a transaction open for {seconds} s; {text}") {
             self.put_of(session, &what);
+        }
+    }
+
+    fn end_late(&self) {
+        let (Some(meters), Some(most)) = (&self.meters, self.limit) else {
+            return;
+        };
+        for (session, seconds) in &meters.take_over(&self.rt, u64::from(most)) {
+            if let Ok(what) = format!(in self.alloc; "is ended: its transaction is open for {seconds} s") {
+                self.put_of(*session, &what);
+            }
+            self.roster.shut(&self.rt, *session, Shutdown::Both);
         }
     }
 }
@@ -198,6 +220,14 @@ impl<R: Wait + Clock, E: Target, I: Source> Slow for Lines<R, E, I> {
 const PIECE: usize = 4_096;
 
 impl<R: Wait + Clock, E: Target, I: Source> Drained for Lines<R, E, I> {
+    fn begin_serving(&self) {
+        self.begun.store(true, Ordering::SeqCst);
+    }
+
+    fn has_begun(&self) -> bool {
+        self.begun.load(Ordering::SeqCst)
+    }
+
     fn wait_for_end(&self) {
         let mut piece = [0u8; PIECE];
         for _ in self.rt.forever() {

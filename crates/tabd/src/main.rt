@@ -32,6 +32,7 @@ fn main(rt: HostRuntime) -> ExitCode {
             log: Log::Brief,
             meters: None,
             slow: None,
+            limit: None,
             drains: false,
             idle: None,
         },
@@ -62,6 +63,7 @@ fn told(service: &Service) -> Told {
         log: service.log,
         meters: meters(service),
         slow: service.slow,
+        limit: service.limit,
         drains: service.drains,
         idle: service.idle,
     }
@@ -69,7 +71,7 @@ fn told(service: &Service) -> Told {
 
 /// The counters of a server that has a page of them, or that times transactions.
 fn meters(service: &Service) -> Option<Meters> {
-    if service.metrics.is_none() && service.slow.is_none() {
+    if service.metrics.is_none() && service.slow.is_none() && service.limit.is_none() {
         return None;
     }
     Some(Meters::new(About {

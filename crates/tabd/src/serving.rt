@@ -1,7 +1,6 @@
 //! A run of the server.
 
-ghost use Rattle.std.specs.Prelude.{◌≡◌, ◌*◌, option_map};
-ghost use Rattle.std.specs.Duration.{as_nanos};
+ghost use Rattle.std.specs.Prelude.{◌≡◌};
 
 use crate::Ended;
 use crate::address::{Place, listen_at, listen_on};
@@ -15,29 +14,26 @@ use std::net::{Net, TcpListener, TcpStream};
 use std::rt::Files;
 use std::sync::Wait;
 use std::thread::Threads;
-use std::time::Duration;
 use std::{io, thread};
 use tab_book::Shared;
 use tab_etf::{Broken, Target, give_all};
 use tab_metrics::{Closing, serve_pages};
 use tab_post::{Channel, Host, Naming, Opened};
-use tab_server::{Delivery, Gate, Listener, Notes, Settings, serve, serve_forever};
+use tab_server::{Gate, Listener, Notes, Settings, serve, serve_forever};
 use tab_words::{Address, Service};
 
 /// The settings of connections, from the words.
-fn settings(delivery: Delivery, idle: Option<u32>, aborts: bool) -> Settings
-    ensures delivery { result.delivery ≡ delivery }
-    ensures aborts { result.aborts ≡ aborts }
-    ensures idle { option_map as_nanos result.idle ≡ option_map (λ s. s * 1000000000) idle }
+fn settings(service: &Service) -> Settings
+    ensures delivery { result.delivery ≡ service.now.delivery }
+    ensures idle { result.idle ≡ service.now.idle }
+    ensures idle_sessions { result.idle_sessions ≡ service.now.idle_sessions }
+    ensures aborts { result.aborts ≡ service.now.aborts }
 {
-    let idle = match idle {
-        Some(seconds) => Some(Duration::from_secs(u64::from(seconds))),
-        None => None,
-    };
     Settings {
-        delivery,
-        idle,
-        aborts,
+        delivery: service.delivery,
+        idle: service.idle,
+        idle_sessions: service.idle_sessions,
+        aborts: service.aborts,
     }
 }
 
@@ -186,7 +182,7 @@ where
         Some(pages) => beside_pages(
             &host, alloc, listening, pages, &shared, service, output, gate,
         ),
-        None => say_and_serve(&host, alloc, listening, &shared, service, output, gate),
+        None => serve_drained(&host, alloc, listening, &shared, service, output, gate),
     }
 }
 
@@ -211,14 +207,14 @@ where
         if started.is_err() {
             return End::Stopped(Ended::NoMemory);
         }
-        let end = say_and_serve(host, alloc, listening, shared, service, output, gate);
+        let end = serve_drained(host, alloc, listening, shared, service, output, gate);
         closing.close();
         end
     })
 }
 
-/// Prints the lines, and serves clients; with `--drain` until standard input ends.
-fn say_and_serve<H, W, G>(
+/// Serves clients; with `--drain` until standard input ends.
+fn serve_drained<H, W, G>(
     host: &H,
     alloc: Global,
     listening: &Listening<'_>,
@@ -234,11 +230,32 @@ where
 {
     match &listening.door {
         Some(door) => serve_until_end(host, alloc, listening, door, shared, service, output, gate),
-        None => serve_said(host, alloc, listening, shared, service, output, gate),
+        None => serve_timed(host, alloc, listening, shared, service, output, gate),
     }
 }
 
-/// Prints the lines, and serves clients. The listeners and the book are created before.
+/// Serves clients, and looks for transactions that are open for long if some of the words ask for it.
+pub fn serve_timed<H, W, G>(
+    host: &H,
+    alloc: Global,
+    listening: &Listening<'_>,
+    shared: &Shared<H>,
+    service: Service,
+    output: &mut W,
+    gate: &G,
+) -> End
+where
+    H: Host + Threads + Send + Sync,
+    W: Target,
+    G: Gate + Notes + Drained + Slow + Sync,
+{
+    if service.slow.is_some() || service.limit.is_some() {
+        return serve_watched(host, alloc, listening, shared, service, output, gate);
+    }
+    serve_said(host, alloc, listening, shared, service, output, gate)
+}
+
+/// Prints the lines, and serves clients. All other threads of the server run before, but for the dispatcher.
 pub fn serve_said<H, W, G>(
     host: &H,
     alloc: Global,
@@ -251,12 +268,13 @@ pub fn serve_said<H, W, G>(
 where
     H: Host + Threads + Send + Sync,
     W: Target,
-    G: Gate + Notes + Slow + Sync,
+    G: Gate + Notes + Drained + Sync,
 {
     if say(output, &listening.lines).is_err() {
         let error = io::Error::other("standard output can't be written");
         return End::Stopped(refused(&error, gate));
     }
+    gate.begin_serving();
     serve_clients(host, alloc, listening.clients, shared, service, gate)
 }
 
@@ -266,8 +284,8 @@ fn say<W: Target>(output: &mut W, lines: &str) -> Result<(), Broken> {
     output.flush()
 }
 
-/// Serves clients until the accepting and all sessions have ended. With `--slow` a thread reports slow transactions.
-fn serve_clients<H: Host + Threads + Send + Sync, G: Gate + Notes + Slow + Sync>(
+/// Serves clients until all sessions have ended, or for good.
+fn serve_clients<H: Host + Threads + Send + Sync, G: Gate + Notes + Sync>(
     host: &H,
     alloc: Global,
     clients: &Listener,
@@ -275,22 +293,7 @@ fn serve_clients<H: Host + Threads + Send + Sync, G: Gate + Notes + Slow + Sync>
     service: Service,
     gate: &G,
 ) -> End {
-    if service.slow.is_some() {
-        return serve_watched(host, alloc, clients, shared, service, gate);
-    }
-    serve_plainly(host, alloc, clients, shared, service, gate)
-}
-
-/// Serves clients without a thread that looks for slow transactions.
-pub fn serve_plainly<H: Host + Threads + Send + Sync, G: Gate + Notes + Sync>(
-    host: &H,
-    alloc: Global,
-    clients: &Listener,
-    shared: &Shared<H>,
-    service: Service,
-    gate: &G,
-) -> End {
-    let settings = settings(service.delivery, service.idle, service.aborts);
+    let settings = settings(&service);
     if service.forever {
         serve_forever(host, alloc, clients, shared, settings, gate);
         return End::Done;

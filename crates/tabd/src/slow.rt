@@ -1,38 +1,45 @@
-//! Reports of transactions that are open for long.
+//! Transactions that are open for long: reports of them, and the end of their sessions.
 
 use crate::Ended;
+use crate::draining::Drained;
 use crate::ending::End;
-use crate::serving::serve_plainly;
+use crate::serving::{Listening, serve_said};
 use std::alloc::Global;
 use std::thread;
 use std::thread::Threads;
 use tab_book::{Activity, Shared};
+use tab_etf::Target;
 use tab_metrics::Closing;
 use tab_post::Host;
-use tab_server::{Gate, Listener, Notes};
+use tab_server::{Gate, Notes};
 use tab_words::Service;
 
-/// Reports each transaction that is open for long, once.
+/// Reports each transaction that is open for long, once, and ends the sessions of those that are open for too long.
 pub trait Slow {
     /// Returns whether such a transaction is not reported yet.
     fn any_is_late(&self) -> bool;
 
     /// Reports the session's transaction with its locks, if it is open for long and not reported yet.
     fn report_late(&self, activity: &Activity);
+
+    /// Ends the connection of each session whose transaction is open for too long.
+    fn end_late(&self);
 }
 
 /// Serves clients, and looks for such transactions in a thread of its own.
-pub fn serve_watched<H, G>(
+pub fn serve_watched<H, W, G>(
     host: &H,
     alloc: Global,
-    clients: &Listener,
+    listening: &Listening<'_>,
     shared: &Shared<H>,
     service: Service,
+    output: &mut W,
     gate: &G,
 ) -> End
 where
     H: Host + Threads + Send + Sync,
-    G: Gate + Notes + Slow + Sync,
+    W: Target,
+    G: Gate + Notes + Drained + Slow + Sync,
 {
     let closing = &Closing::new();
     thread::scope(thread::scope_env(), host, |scope| {
@@ -40,13 +47,13 @@ where
         if started.is_err() {
             return End::Stopped(Ended::NoMemory);
         }
-        let end = serve_plainly(host, alloc, clients, shared, service, gate);
+        let end = serve_said(host, alloc, listening, shared, service, output, gate);
         closing.close();
         end
     })
 }
 
-/// Looks for such transactions until the server has ended. It locks the book only if it finds one.
+/// Looks for such transactions until the server has ended. It locks the book only if it reports one.
 fn watch<H: Host, G: Slow>(host: &H, shared: &Shared<H>, gate: &G, closing: &Closing) {
     for _ in host.forever() {
         if closing.is_over() {
@@ -55,6 +62,7 @@ fn watch<H: Host, G: Slow>(host: &H, shared: &Shared<H>, gate: &G, closing: &Clo
         if gate.any_is_late() {
             report(host, shared, gate);
         }
+        gate.end_late();
         closing.pause(host);
     }
 }

@@ -28,17 +28,17 @@ spawn-started-requires-send-F g c κs within =
     (shr_send _ _ _ sync, (heap_send, (shr_send _ _ _ listener-sync, (shr_send _ _ _ (Shared-sync H g.H.Naming g.H.Host g.H.Wait g.H.Clone send), (shr_send _ _ _ (param_sync 2 g.row.G c.requires.1.1.1.2), (shr_send _ _ _ closing-sync, tt)))))) in
     record { owned = sent.owned; leaving = sent.leaving }
 
-pub say_and_serve-end-requires-send-H : goal.say_and_serve-end-requires-send-H
-say_and_serve-end-requires-send-H g c κs within =
+pub serve_drained-end-requires-send-H : goal.serve_drained-end-requires-send-H
+serve_drained-end-requires-send-H g c κs within =
     let sent = copied_send 0 g.row.H c.requires.1.1.1.0 in
     record { owned = sent.owned; leaving = sent.leaving }
 
-pub say_and_serve-end-requires-sync-H : goal.say_and_serve-end-requires-sync-H
-say_and_serve-end-requires-sync-H g c κs within =
+pub serve_drained-end-requires-sync-H : goal.serve_drained-end-requires-sync-H
+serve_drained-end-requires-sync-H g c κs within =
     let seen = copied_sync 0 g.row.H c.requires.1.1.1.1 in
     record { shared = seen.shared }
 
-pub say_and_serve-end-requires-sync-G : goal.say_and_serve-end-requires-sync-G
-say_and_serve-end-requires-sync-G g c κs within =
+pub serve_drained-end-requires-sync-G : goal.serve_drained-end-requires-sync-G
+serve_drained-end-requires-sync-G g c κs within =
     let seen = param_sync 2 g.row.G c.requires.1.1.1.2 in
     record { shared = seen.shared }
