@@ -208,7 +208,9 @@ impl<R: Wait + Clock, E: Target, I: Source> Slow for Lines<R, E, I> {
             return;
         };
         for (session, seconds) in &meters.take_over(&self.rt, u64::from(most)) {
-            if let Ok(what) = format!(in self.alloc; "is ended: its transaction is open for {seconds} s") {
+            if let Ok(what) = format!(in self.alloc;
+                "is ended: its transaction is open for {seconds} s"
+            ) {
                 self.put_of(*session, &what);
             }
             self.roster.shut(&self.rt, *session, Shutdown::Both);
