@@ -160,6 +160,37 @@ def test_a_reader_that_takes_nothing(server: Server) -> None:
     assert re.fullmatch(rf"tabd: session 1{AT} was idle\n", server.log()), "what it said"
 
 
+@seats(3, "--transaction-limit", "1", said=rf"tabd: session 1{AT} is ended: its transaction is open for 1 s\n")
+@pytest.mark.tries(3)
+def test_a_transaction_limit(server: Server) -> None:
+    """A transaction that is open for too long ends with its session, whatever its client sends meanwhile; one that waits for its locks goes on."""
+    younger, older, third = server.clients(3)
+    script((younger, CREATE, ATOMIC), (younger, "begin", ("tid", 1)), (younger, write(1, "a"), OK), (older, one_shot(write(2, "b")), ("atomic", [OK])))
+    begun_at = time.monotonic()
+    with pytest.raises(OSError):
+        while time.monotonic() - begun_at < 10:
+            younger.ask(("read", "t", 2))
+    assert 0.9 < time.monotonic() - begun_at < 3, "its time"
+    script((third, one_shot(write(1, "c")), ("atomic", [OK])), (third, one_shot(("read", "t", 1)), ("atomic", [[("t", 1, "c")]])))
+
+
+@seats(3, "--idle-sessions", "2", "--idle", "1", said=rf"tabd: session 1{AT} was idle\n")
+@pytest.mark.tries(3)
+def test_an_idle_session(server: Server) -> None:
+    """A session that sends nothing for so long ends, and one that sends in time or has subscribed does not."""
+    idle, busy, mirror = server.clients(3)
+    script((busy, CREATE, ATOMIC))
+    follow(mirror)
+    began = time.monotonic()
+    for number in range(1, 6):
+        script((busy, one_shot(write(number, "a")), ("atomic", [OK])))
+        assert mirror.event() == event(number, "a", number), "its event"
+        time.sleep(0.8)
+    assert idle.stream.read() == b"", "the idle one"
+    assert time.monotonic() - began > 3, "the time of the others"
+    script((busy, "begin", ("tid", 6)), (busy, "commit", ("atomic", 6)))
+
+
 @seats(2, "--log", "--outbox", "16")
 def test_a_log(server: Server) -> None:
     """Each start, end and overflow of a session, and each refusal of a connection, has a line."""
