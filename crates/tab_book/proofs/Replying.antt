@@ -1,11 +1,10 @@
 -- A reply is that of a step of a running book.
-use Rattle.std.proofs.Common.{◌≡◌, ℕ, refl}
+use Rattle.std.proofs.Common.{◌≡◌, ℕ}
 use Rattle.std.specs.Prelude.{Result, Ok, Err, IfOk}
-use Rattle.tab_model.specs.declared.data.Reply.{Reply}
 use Rattle.tab_model.specs.Outcome.{Ask}
 use Rattle.tab_book.specs.declared.step.Answered.{Answered}
 use Rattle.tab_book.specs.Releases.{SaysReleases}
-use Rattle.tab_book.specs.Replies.{IsAnswer, IsReply}
+use Rattle.tab_book.specs.Replies.{IsAnswer}
 use Rattle.tab_book.specs.Running.{Running, IsRunning}
 use Rattle.tab_book.specs.Steps.{StepsTo}
 use Rattle.tab_book.specs.Transitions.{transition}
@@ -15,6 +14,3 @@ module _ (n : ℕ) (a : Ask) where
       → IfOk r (λ x. SaysReleases x.releases old.state new.state) → IfOk r (λ x. x.transaction ≡ transition old.state new.state n a x.told) → IfOk r (λ x. IsAnswer n a x)
   answers old new (Ok x) runs runs_on step releases transaction = record { before = old; after = new; runs = runs; step = step; runs_on = runs_on; releases = releases; transaction = transaction }
   answers old new (Err e) runs runs_on step releases transaction = tt
-
-  pub reply_of : (x : Answered) → IsAnswer n a x → IsReply n a x.told
-  reply_of x is = record { answered = x; is = is; reply = refl }
