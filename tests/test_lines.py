@@ -13,7 +13,8 @@ from typing import Any, Iterator, List, Tuple
 import pytest
 
 from tests.lib.checks import ATOMIC, CREATE, HERE_OK, MARK, OK, event, watch, write
-from tests.lib.streams import DAMAGED, DEVICE, Step, of_steps
+from tests.lib.notation import Step
+from tests.lib.streams import DAMAGED, DEVICE, of_steps
 from tests.lib.wire import Term, frame, frames
 
 LONGEST = 1_048_576

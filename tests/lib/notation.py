@@ -1,12 +1,15 @@
-"""Terms as Erlang writes them, and as documents and scripts.txt have them."""
+"""Terms as Erlang writes them, and as documents and the scripts of this folder have them."""
 
+import pathlib
 import re
-from typing import Any, Dict, Iterator, Tuple
+from typing import Any, Dict, Iterator, List, Sequence, Tuple
 
 from tests.lib.wire import Term
 
 TOKEN = re.compile(r"<<|>>|[{}\[\],]|-?\d+|[a-z][\w@]*|'[^']*'")
 CLOSED: Dict[str, Tuple[str, Any]] = {"{": ("}", tuple), "[": ("]", list), "<<": (">>", bytes)}
+# A session or connection, its request and the reply.
+Step = Tuple[int, Term, Term]
 
 
 def terms_of(text: str) -> Iterator[Term]:
@@ -20,3 +23,15 @@ def terms_of(text: str) -> Iterator[Term]:
         return kind([term(it) for it in iter(tokens.__next__, end) if it != ","])
 
     return map(term, tokens)
+
+
+def parts_of(name: str) -> Iterator[List[Term]]:
+    """The terms of each part of a file in this folder: an empty line ends a part, and `%` begins a comment."""
+    text = (pathlib.Path(__file__).parent / name).read_text(encoding="utf-8")
+    for part in re.sub(" *%.*\n", "", text).strip().split("\n\n"):
+        yield list(terms_of(part))
+
+
+def rows_of(terms: Sequence[Term], width: int = 3) -> List[Any]:
+    """So many terms in each row: three are a step."""
+    return [tuple(terms[first : first + width]) for first in range(0, len(terms), width)]
