@@ -3,7 +3,7 @@
 Each stream of streams.py, but those that take a thousand operations and those that are damaged, is asked frame by frame, once
 for each allocation that it makes: with the nth refused. A request with the reply `{error, no_memory}` is sent again at once, and then
 all replies are the stream's. A run may instead end with status 1 and its line if memory was refused at the start or for the
-frame itself, after the replies to all earlier frames. A one-shot uses up an age, so each of one_shots.py has runs of its own, with a probe
+frame itself, after the replies to all earlier frames. A one-shot uses up an age, so each of one_shots.txt has runs of its own, with a probe
 after it: it left no level, no lock, no request and no change. On a connection each larger allocation is refused, so that there is no memory
 for a long frame: the reply says so, and the session goes on. No contract ties a reply to refused memory, so only these tests show it.
 With `--wrong` the program is each of a few wrong ones, which end by themselves if they are refused memory, and each has to be found in
@@ -18,7 +18,7 @@ from typing import Any, Callable, List
 import pytest
 
 from tests.lib.checks import ATOMIC, CREATE
-from tests.lib.one_shots import ONE_SHOTS, PROBED
+from tests.lib.notation import Cases
 from tests.lib.refusing import NO_MEMORY, RefusedReplay, built, is_no_memory, tried
 from tests.lib.servers import Server
 from tests.lib.streams import streams
@@ -117,7 +117,8 @@ def shifted(term: Any, last: int, by: int) -> Any:
 
 
 ROWS = [stream for stream in streams() if stream.name not in LEFT_OUT and stream.given and b"\x77\x0btransaction" not in stream.all]
-SHOTS = list(itertools.starmap(OneShot, ONE_SHOTS))
+ONE_SHOTS = Cases("one_shots.txt", 5)
+SHOTS = [OneShot(name, ONE_SHOTS.joined(before), request, reply, ONE_SHOTS.joined(after)) for name, before, request, reply, after in ONE_SHOTS.rows]
 IN_STREAMS = [
     OneShotOfAStream(stream, place)
     for stream in streams()
@@ -199,7 +200,7 @@ def probe(run: Any, case: Any) -> None:
     begun = run.ask(frame((1, "begin")))
     age = next((age for age in (ages, ages + 1) if begun == frame((1, ("tid", age)))), None)
     assert age, f"the reply to a begin after it is {begun}"
-    steps = [(1, "commit", ("atomic", 2)), (2, "begin", ("tid", age + 1)), *PROBED, (2, ("abort", "probe"), ("aborted", "probe"))]
+    steps = [(1, "commit", ("atomic", 2)), (2, "begin", ("tid", age + 1)), *ONE_SHOTS.steps["the probe"], (2, ("abort", "probe"), ("aborted", "probe"))]
     for session, asked, wanted in [*steps, *case.after, (1, case.request, case.reply)]:
         told = run.ask(frame((session, asked)))
         assert told == frame((session, wanted)), f"the reply to {asked} after it is {told}, wanted {wanted}"

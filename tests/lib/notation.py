@@ -6,19 +6,19 @@ from typing import Any, Dict, Iterator, List, Sequence, Tuple
 
 from tests.lib.wire import Term
 
-TOKEN = re.compile(r"<<|>>|[{}\[\],]|-?\d+|[a-z][\w@]*|'[^']*'")
+TOKEN = re.compile(r"<<|>>|[{}\[\],]|-?\d+|[a-z][\w@]*|'[^']*'|\"[^\"]*\"")
 CLOSED: Dict[str, Tuple[str, Any]] = {"{": ("}", tuple), "[": ("]", list), "<<": (">>", bytes)}
 # A session or connection, its request and the reply.
 Step = Tuple[int, Term, Term]
 
 
 def terms_of(text: str) -> Iterator[Term]:
-    """The terms of a text, one after another, with any spaces and lines between them."""
+    """The terms of a text, one after another, with any spaces and lines between them; a text in double quotes is a name."""
     tokens = iter(TOKEN.findall(text))
 
     def term(token: str) -> Term:
         if token not in CLOSED:
-            return int(token) if token.lstrip("-").isdigit() else token.strip("'")
+            return int(token) if token.lstrip("-").isdigit() else token.strip("'\"")
         end, kind = CLOSED[token]
         return kind([term(it) for it in iter(tokens.__next__, end) if it != ","])
 
@@ -35,3 +35,15 @@ def parts_of(name: str) -> Iterator[List[Term]]:
 def rows_of(terms: Sequence[Term], width: int = 3) -> List[Any]:
     """So many terms in each row: three are a step."""
     return [tuple(terms[first : first + width]) for first in range(0, len(terms), width)]
+
+
+class Cases:
+    """Those of a file, whose last part has a row of so many terms for each; the parts before it are steps, each with its name."""
+
+    def __init__(self, name: str, width: int) -> None:
+        *parts, (_, *rows) = parts_of(name)
+        self.rows = rows_of(rows, width)
+        self.steps: Dict[str, List[Step]] = {part: rows_of(terms) for part, *terms in parts}
+
+    def joined(self, names: List[str]) -> List[Step]:
+        return [step for name in names for step in self.steps[name]]
