@@ -10,7 +10,7 @@ import hypothesis
 import pytest
 from _pytest.runner import runtestprotocol
 
-pytest.register_assert_rewrite("tests.lib.checks", "tests.lib.servers", "tests.lib.refusing")
+pytest.register_assert_rewrite("tests.lib.checks", "tests.lib.playing", "tests.lib.servers", "tests.lib.refusing")
 
 from tests.lib.servers import Server  # noqa: E402
 from tests.lib.wire import Connection  # noqa: E402

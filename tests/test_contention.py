@@ -20,6 +20,7 @@ import pytest
 
 from tests.lib.checks import ATOMIC, CREATE, OK, add, begun, change, committed, gets, one_shot, opened, read_waits, script, side_by_side, waits
 from tests.lib.checks import write
+from tests.lib.playing import scripted
 from tests.lib.refusing import built
 from tests.lib.servers import Server
 from tests.lib.wire import Connection, Term, frame
@@ -88,40 +89,9 @@ def test_a_restart_comes(clients: List[Connection]) -> None:
     script((older, "commit", ("atomic", 1)), (younger, write(6, "c"), OK), (younger, "commit", ("atomic", 2)))
 
 
-@served(2)
-def test_two_upgrades(clients: List[Connection]) -> None:
-    """Both read, both write: the older waits until the younger was restarted."""
-    older, younger = clients
-    begun(older, younger)
-    script((older, READ, []), (younger, READ, []))
-    older.send(write(1, "a"))
-    waits(older)
-    script((younger, write(1, "b"), "restart"))
-    gets(older, OK)
-    script((older, "commit", ("atomic", 1)), (younger, READ, [("t", 1, "a")]))
-
-
-@served(3)
-def test_no_overtaking(clients: List[Connection]) -> None:
-    """A request after an older queued one backs off, though it does not conflict with the granted lock."""
-    first, second, third = clients
-    begun(first, second, third)
-    script((second, READ, []))
-    first.send(("write_lock_table", "t"))
-    waits(first)
-    script((third, ("read", "t", 2), "restart"), (second, "commit", ("atomic", 1)))
-    gets(first, OK)
-    script((first, ("abort", "no"), ("aborted", "no")), (third, ("read", "t", 2), []))
-
-
-@served(2)
-def test_phantom(clients: List[Connection]) -> None:
-    """A look-up by an index is not joined by a record that was not there."""
-    reader, writer = clients
-    create = ("create_table", "x", [("attributes", ["k", "v"]), ("index", ["v"])])
-    script((reader, create, ATOMIC))
-    opened(reader, writer)
-    script((reader, ("index_read", "x", "q", "v"), []), (writer, ("write", ("x", 9, "q")), "restart"))
+test_two_upgrades = served(2)(scripted("two upgrades"))
+test_no_overtaking = served(3)(scripted("no overtaking"))
+test_phantom = served(2)(scripted("phantom"))
 
 
 @served(2)

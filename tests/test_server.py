@@ -16,7 +16,8 @@ from typing import Any, Callable, List
 import pytest
 
 from tests.lib.checks import ATOMIC, CREATE, END, HERE_OK, MARK, OK, QUIET, UNWATCH, add, at_last, begun, change, committed, event, follow
-from tests.lib.checks import holds, one_shot, script, side_by_side, waits, watch, write
+from tests.lib.checks import holds, one_shot, script, side_by_side, watch, write
+from tests.lib.playing import play, scripted
 from tests.lib.servers import Server
 from tests.lib.wire import Connection, Term, frame
 
@@ -72,69 +73,16 @@ def unread(connection: Connection) -> None:
     connection.break_off()
 
 
-@served(3)
-def test_others_go_on(clients: List[Connection]) -> None:
-    """Sessions go on while another's transaction is open, and a watching session gets the events of their commits."""
-    first, second, third = clients
-    begun(first, second)
-    follow(third)
-    script((first, write(1, "a"), OK), (second, write(2, "b"), OK), (second, "commit", ("atomic", 1)))
-    assert third.event() == event(2, "b", 2), "event"
-    script(
-        (second, "begin", ("tid", 3)),
-        (second, ("read", "t", 2), [("t", 2, "b")]),
-        # The younger waits for no one: the key is the older's.
-        (second, ("read", "t", 1), "restart"),
-        (first, "commit", ("atomic", 2)),
-        (second, ("read", "t", 1), [("t", 1, "a")]),
-    )
-    assert third.event() == event(1, "a", 1), "event"
-    script((third, UNWATCH, HERE_OK))
-    assert third.event() == END, "end marker"
+test_others_go_on = served(3)(scripted("others go on"))
+test_a_session_leaves_a_queue = served(3)(scripted("a session leaves a queue"))
+test_batches = served(3, "--batches")(scripted("batches"))
 
 
 @served(2)
-@pytest.mark.parametrize(
-    "end, reply, found",
-    [
-        (("abort", "why"), ("aborted", "why"), 1),
-        ("commit", ("atomic", 2), 2),
-        ("leave", None, 1),
-        ("break", None, 1),
-    ],
-    ids=["by an abort", "by a commit", "by an end", "by a broken connection"],
-)
-def test_woken(clients: List[Connection], end: Any, reply: Any, found: Any) -> None:
+@pytest.mark.parametrize("end", ["by an abort", "by a commit", "by an end", "by a broken connection"])
+def test_woken(clients: List[Connection], end: str) -> None:
     """A session that waits gets the record as soon as the other's transaction ends, in each way."""
-    older, younger = clients
-    script((older, CREATE, ATOMIC))
-    change(older, write(1, 1))
-    script((older, "begin", ("tid", 2)), (younger, "begin", ("tid", 3)), (younger, write(1, 2), OK))
-    older.send(("read", "t", 1))
-    waits(older)
-    if end == "leave":
-        younger.close()
-    elif end == "break":
-        younger.break_off()
-    else:
-        script((younger, end, reply))
-    assert older.receive() == ("reply", [("t", 1, found)]), "the one that waits"
-    script((older, "commit", ("atomic", 3 if end == "commit" else 2)))
-
-
-@served(3)
-def test_a_session_leaves_a_queue(clients: List[Connection]) -> None:
-    """A queued request is dropped with its session: the request after it is woken."""
-    first, second, third = clients
-    begun(first, second, third)
-    script((third, ("read", "t", 1), []))
-    second.send(write(1, "b"))
-    waits(second)
-    first.send(("read", "t", 1))
-    waits(first)
-    second.break_off()
-    assert first.receive() == ("reply", []), "the request after it"
-    script((third, "commit", ("atomic", 1)), (first, "commit", ("atomic", 2)))
+    play(clients, f"woken {end}")
 
 
 @pytest.mark.parametrize(
@@ -333,24 +281,6 @@ def test_long_items(clients: List[Connection], sent: Sent) -> None:
     assert replies == [("reply", HERE_OK)] * 2, "replies"
     for line, item in enumerate(items):
         holds(f"item {line}", mirror.event() == item)
-
-
-@served(3, "--batches")
-def test_batches(clients: List[Connection]) -> None:
-    """A commit's events come in one frame, with its number, if it changed a table that the session watches; markers are the same."""
-    one, other, mirror = clients
-    script((one, CREATE, ATOMIC), (one, ("create_table", "u", []), ATOMIC), (mirror, watch("dump"), HERE_OK), (other, watch(), HERE_OK))
-    change(one, write(1, "a"), ("delete", ("t", 1)), ("write", ("u", 1, 1)), write(2, "b"))
-    change(one, ("write", ("u", 2, 2)))
-    change(one, write(3, "c"))
-    script((mirror, UNWATCH, HERE_OK), (one, ("delete_table", "t"), ATOMIC))
-    deletion = ("mnesia_table_event", ("delete", ("t", 1), ("tid", 1)))
-    commits = together(1, [event(1, "a", 1), deletion, event(2, "b", 1)]) + together(3, [event(3, "c", 3)])
-    ends: List[Any] = [(mirror, ([],), "unsubscribed"), (other, (), "deleted")]
-    for connection, mark, end in ends:
-        assert connection.event() == ("mnesia_table_begin", "t", "simple", *mark), "begin marker"
-        assert [connection.event(), connection.event()] == commits, "commits"
-        assert connection.event() == ("mnesia_table_end", "t", end), "end marker"
 
 
 @served(5, "--batches", "--outbox", "1024")
