@@ -25,10 +25,19 @@ def terms_of(text: str) -> Iterator[Term]:
     return map(term, tokens)
 
 
+def text_of(name: str) -> str:
+    """The text of a file in this folder."""
+    return (pathlib.Path(__file__).parent / name).read_text(encoding="utf-8")
+
+
+def columns_of(name: str) -> Iterator[List[str]]:
+    """The columns of each row of a file, which are separated by tabs; `#` begins a comment."""
+    return (line.split("\t") for line in text_of(name).splitlines() if line and not line.startswith("#"))
+
+
 def parts_of(name: str) -> Iterator[List[Term]]:
-    """The terms of each part of a file in this folder: an empty line ends a part, and `%` begins a comment."""
-    text = (pathlib.Path(__file__).parent / name).read_text(encoding="utf-8")
-    for part in re.sub(" *%.*\n", "", text).strip().split("\n\n"):
+    """The terms of each part of a file: an empty line ends a part, and `%` begins a comment."""
+    for part in re.sub(" *%.*\n", "", text_of(name)).strip().split("\n\n"):
         yield list(terms_of(part))
 
 
