@@ -21,7 +21,6 @@ import pytest
 from tests.lib.checks import ATOMIC, CREATE, OK, add, begun, change, committed, gets, one_shot, opened, read_waits, script, side_by_side, waits
 from tests.lib.checks import write
 from tests.lib.playing import scripted
-from tests.lib.refusing import built
 from tests.lib.servers import Server
 from tests.lib.wire import Connection, Term, frame
 
@@ -315,12 +314,12 @@ def by_others(server: Server, load: str) -> Tuple[float, float]:
     return share, (busy() - before - own) / ((time.monotonic() - began) * (os.cpu_count() or 1))
 
 
-def test_no_one_polls_while_another_waits(serve: Callable[..., Server], tmp_path: Any) -> None:
+def test_no_one_polls_while_another_waits(serve: Callable[..., Server], library: Callable[[str], str], tmp_path: Any) -> None:
     """A session polls for the next request for a moment, since its client may ask at once; but not while another session waits for a lock,
     which it would take again before the other is awake."""
     file = tmp_path / "count"
     file.write_bytes(bytes(8))
-    env = {**os.environ, "LD_PRELOAD": built("counting", tmp_path), "COUNT": str(file)}
+    env = {**os.environ, "LD_PRELOAD": library("counting"), "COUNT": str(file)}
     server = serve("--connections", "2", env=env)
     older, younger = server.connect(), server.connect()
 

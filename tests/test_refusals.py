@@ -19,7 +19,7 @@ import pytest
 
 from tests.lib.checks import ATOMIC, CREATE
 from tests.lib.notation import Cases
-from tests.lib.refusing import NO_MEMORY, RefusedReplay, built, is_no_memory, tried
+from tests.lib.refusing import NO_MEMORY, RefusedReplay, is_no_memory, tried
 from tests.lib.servers import Server
 from tests.lib.streams import streams
 from tests.lib.wire import frame, term_of
@@ -130,14 +130,9 @@ BEGUN = [case for case in IN_STREAMS if case.reply not in NOT_BEGUN]
 
 
 @pytest.fixture(scope="session")
-def library(tmp_path_factory: pytest.TempPathFactory) -> Any:
-    return built("refusing_replay", tmp_path_factory.mktemp("refusing"))
-
-
-@pytest.fixture(scope="session")
-def replay(tabd: str, library: str) -> Any:
+def replay(tabd: str, library: Callable[[str], str]) -> Any:
     """Starts a replay with some options whose nth allocation is refused."""
-    start = partial(RefusedReplay, tabd, library)
+    start = partial(RefusedReplay, tabd, library("refusing_replay"))
     with start(["replay"], 1) as run:
         run.ask(frame((1, "join")))
         if not run.ended()[0]:
@@ -296,9 +291,9 @@ def test_what_a_one_shot_leaves_is_found(replay: Any, left: Any, case: Any) -> N
     assert faults_in_stream(replay, case, left([*case.tables, "t"][0]))
 
 
-def test_a_served_frame(replay: Any, serve: Callable[..., Server], library: str) -> None:
+def test_a_served_frame(replay: Any, serve: Callable[..., Server], library: Callable[[str], str]) -> None:
     """A frame on a connection for which no memory is found, cut in several ways, between two that find some."""
-    connection = serve("--connections", "1", env={"LD_PRELOAD": library, "LARGEST": "300000"}).connect()
+    connection = serve("--connections", "1", env={"LD_PRELOAD": library("refusing_replay"), "LARGEST": "300000"}).connect()
     short, long = frame(("read", "t", 1)), frame(("write", ("t", 1, bytes(900_000))))
     assert [connection.ask(CREATE), connection.ask("begin")] == [ATOMIC, ("tid", 1)]
     for cut in (0, 1, 4, 70_000, 400_000, len(long) - 1):

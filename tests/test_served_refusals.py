@@ -19,7 +19,7 @@ import pytest
 
 from tests.lib.checks import ATOMIC, HERE_OK, MARK, OK, event, same, script, soon, watch, write
 from tests.lib.notation import Cases, Step
-from tests.lib.refusing import NO_MEMORY, RefusedServer, built, tried
+from tests.lib.refusing import NO_MEMORY, RefusedServer, tried
 from tests.lib.wire import Connection, Term
 
 OF_FILE = Cases("refused.txt", 6)
@@ -238,10 +238,9 @@ CASES: List[Union[Case, Watched, Joins]] = [
 
 
 @pytest.fixture(scope="session")
-def refused(tabd: str, tmp_path_factory: pytest.TempPathFactory) -> Any:
+def refused(tabd: str, library: Callable[[str], str]) -> Any:
     """Starts a server with some options whose allocations can be refused."""
-    library = built("refusing_server", tmp_path_factory.mktemp("refusing"))
-    serve = partial(RefusedServer, tabd, library)
+    serve = partial(RefusedServer, tabd, library("refusing_server"))
     with serve("--connections", "1") as server:
         server.refuse(COUNTED)
         server.connect().ask("begin")

@@ -18,23 +18,9 @@ import pytest
 from tests.lib.checks import ATOMIC, CREATE, END, HERE_OK, MARK, OK, QUIET, UNWATCH, add, at_last, begun, change, committed, event, follow
 from tests.lib.checks import holds, one_shot, script, side_by_side, watch, write
 from tests.lib.playing import play, scripted
+from tests.lib.sending import Sent, both_ways, items, served
 from tests.lib.servers import Server
 from tests.lib.wire import Connection, Term, frame
-
-served = pytest.mark.served
-
-
-# How the events of a commit are sent, by its number.
-Sent = Callable[[int, List[Term]], List[Term]]
-apart: Sent = lambda number, events: events
-together: Sent = lambda number, events: [("batch", number, events)]
-
-
-def both_ways(first: str, second: str, *mark: Any, **more: Any) -> pytest.MarkDecorator:
-    """A case that is run with single events, and with `--batches`; their names, and the arguments of the mark `served`."""
-    apart_too = pytest.param(apart, id=first, marks=served(*mark, **more))
-    return pytest.mark.parametrize("sent", [apart_too, pytest.param(together, id=second, marks=served(*mark, "--batches", **more))])
-
 
 # A length over the longest payload's.
 TOO_LONG = (1_048_577).to_bytes(4, "big")
@@ -163,8 +149,7 @@ def test_a_slow_reader(clients: List[Connection], sent: Sent) -> None:
     """A client that reads nothing gets an overflow after the events that were sent; the other gets each commit, and no one waits."""
     idle, writer, reader = clients
     value, count = b"v" * 4000, 200
-    # A commit writes the key of its number, which is its age too.
-    wanted = [None, *(sent(number, [event(number, value, number)])[0] for number in range(1, count + 1))]
+    wanted = [None, *items([value] * count, sent)]
     script((writer, CREATE, ATOMIC), (idle, watch(), HERE_OK))
     follow(reader)
     for number in range(1, count + 1):

@@ -79,10 +79,11 @@ def change(client: Connection, *changes: Term) -> None:
     script((client, one_shot(*changes), ("atomic", [OK] * len(changes))))
 
 
-def follow(mirror: Connection) -> None:
-    """Subscribes to the table, and gets its begin marker."""
-    script((mirror, watch(), HERE_OK))
-    assert mirror.event() == MARK, "begin marker"
+def follow(*mirrors: Connection) -> None:
+    """Each subscribes to the table, and gets its begin marker."""
+    script(*((mirror, watch(), HERE_OK) for mirror in mirrors))
+    for mirror in mirrors:
+        assert mirror.event() == MARK, "begin marker"
 
 
 def gets(connection: Connection, *replies: Term) -> None:
