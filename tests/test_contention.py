@@ -18,8 +18,8 @@ from typing import Any, Callable, List, Tuple
 
 import pytest
 
-from tests.lib.checks import ATOMIC, CREATE, OK, add, begun, change, committed, gets, one_shot, opened, read_waits, script, side_by_side, waits
-from tests.lib.checks import write
+from tests.lib.checks import ATOMIC, CREATE, OK, add, begun, change, committed, gets, one_shot, opened, raised, read_waits, script
+from tests.lib.checks import side_by_side, waits, write
 from tests.lib.playing import scripted
 from tests.lib.servers import Server
 from tests.lib.wire import Connection, Term, frame
@@ -226,18 +226,9 @@ def test_long_answers(clients: List[Connection]) -> None:
 @served(16)
 def test_sixteen_raise(clients: List[Connection]) -> None:
     """Sixteen raise one record, each after a read for a write; how often they are restarted."""
-    each, restarts = 25, []
-
-    def raise_all(connection: Connection) -> None:
-        for _ in range(each):
-            restarts.append(add(connection, (1, 1)))
-            committed(connection)
-
-    table_of(clients[0])
-    side_by_side([(raise_all, (one,)) for one in clients])
-    count = each * len(clients)
-    script((clients[0], one_shot(READ), ("atomic", [[("t", 1, count)]])))
-    assert sum(restarts) <= 2 * count, f"{sum(restarts)} restarts of {count} transactions"
+    raises = raised(clients, 25)
+    restarts = sum(count for count, _ in raises)
+    assert restarts <= 2 * len(raises), f"{restarts} restarts of {len(raises)} transactions"
 
 
 @served(16)

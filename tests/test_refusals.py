@@ -118,6 +118,7 @@ def shifted(term: Any, last: int, by: int) -> Any:
 
 ROWS = [stream for stream in streams() if stream.name not in LEFT_OUT and stream.given and b"\x77\x0btransaction" not in stream.all]
 ONE_SHOTS = Cases("one_shots.txt", 5)
+PROBED = ONE_SHOTS.steps["the probe"]
 SHOTS = [OneShot(name, ONE_SHOTS.joined(before), request, reply, ONE_SHOTS.joined(after)) for name, before, request, reply, after in ONE_SHOTS.rows]
 IN_STREAMS = [
     OneShotOfAStream(stream, place)
@@ -195,7 +196,7 @@ def probe(run: Any, case: Any) -> None:
     begun = run.ask(frame((1, "begin")))
     age = next((age for age in (ages, ages + 1) if begun == frame((1, ("tid", age)))), None)
     assert age, f"the reply to a begin after it is {begun}"
-    steps = [(1, "commit", ("atomic", 2)), (2, "begin", ("tid", age + 1)), *ONE_SHOTS.steps["the probe"], (2, ("abort", "probe"), ("aborted", "probe"))]
+    steps = [(1, "commit", ("atomic", 2)), (2, "begin", ("tid", age + 1)), *PROBED, (2, ("abort", "probe"), ("aborted", "probe"))]
     for session, asked, wanted in [*steps, *case.after, (1, case.request, case.reply)]:
         told = run.ask(frame((session, asked)))
         assert told == frame((session, wanted)), f"the reply to {asked} after it is {told}, wanted {wanted}"

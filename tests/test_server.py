@@ -9,14 +9,13 @@ are closed.
 import random
 import resource
 import select
-import threading
 import time
 from typing import Any, Callable, List
 
 import pytest
 
 from tests.lib.checks import ATOMIC, CREATE, END, HERE_OK, MARK, OK, QUIET, UNWATCH, add, at_last, begun, change, committed, event, follow
-from tests.lib.checks import holds, one_shot, script, side_by_side, watch, write
+from tests.lib.checks import holds, one_shot, raised, script, side_by_side, watch, write
 from tests.lib.playing import play, scripted
 from tests.lib.sending import Sent, both_ways, items, served
 from tests.lib.servers import Server
@@ -80,21 +79,8 @@ def test_woken(clients: List[Connection], end: str) -> None:
 )
 def test_raise(clients: List[Connection], count: int) -> None:
     """A hot record is raised on each connection; each raise counts once, and has a number of its own."""
-    each = 100 // count
-    total = each * count
-    numbers: List[int] = []
-
-    def raise_all(connection: Connection) -> None:
-        for turn in range(each):
-            add(connection, (1, 1))
-            numbers.append(committed(connection))
-
-    first = clients[0]
-    script((first, CREATE, ATOMIC))
-    change(first, write(1, 0))
-    side_by_side([(raise_all, (one,)) for one in clients])
-    assert sorted(numbers) == list(range(2, total + 2)), "numbers"
-    script((first, one_shot(("read", "t", 1)), ("atomic", [[("t", 1, total)]])))
+    raises = raised(clients, 100 // count)
+    assert sorted(number for _, number in raises) == list(range(2, len(raises) + 2)), "numbers"
 
 
 def copy_of(log: Any) -> Any:
@@ -111,7 +97,7 @@ def test_two_mirrors(clients: List[Connection]) -> None:
     """Two write and delete; each mirror gets the same events, and ends with the table's records."""
     one, other, *mirrors = clients
     each = 60
-    logs: List[Any] = []
+    logs: List[Any] = [[] for _ in mirrors]
 
     def change_all(connection: Connection, seed: int) -> None:
         chance = random.Random(seed)
@@ -120,25 +106,20 @@ def test_two_mirrors(clients: List[Connection]) -> None:
             what = ("delete", ("t", key)) if turn % 5 == 0 else write(key, chance.randrange(1000))
             assert connection.ask(one_shot(what, retries=1000))[0] == "atomic", "commit"
 
-    def read_all(mirror: Any, log: Any) -> None:
-        while not log or log[-1][1][:2] != ("write", ("t", "last", 0)):
-            log.append(mirror.event())
+    def read_all(mirror: Connection, log: Any) -> None:
+        log += [mirror.event() for _ in range(2 * each)]
 
     script((one, CREATE, ATOMIC))
     change(one, write(2, 2))
     for mirror in mirrors:
         script((mirror, watch("dump"), HERE_OK))
         assert mirror.event() == ("mnesia_table_begin", "t", "simple", [("t", 2, 2)]), "begin marker"
-        logs.append([])
-    reading = [threading.Thread(target=read_all, args=given, daemon=True) for given in zip(mirrors, logs)]
-    for thread in reading:
-        thread.start()
-    side_by_side([(change_all, (one, 1)), (change_all, (other, 2))])
+    side_by_side([(change_all, (one, 1)), (change_all, (other, 2)), *((read_all, given) for given in zip(mirrors, logs))])
+    assert logs[0] == logs[1], "logs"
     change(one, write("last", 0))
-    for thread in reading:
-        thread.join(10)
-    assert [len(log) for log in logs] == [2 * each + 1] * len(logs), "events"
-    assert all(log == logs[0] for log in logs), "logs"
+    for mirror, log in zip(mirrors, logs):
+        log.append(mirror.event())
+        assert log[-1][1][:2] == ("write", ("t", "last", 0)), "no more"
     one.ask("begin")
     assert {key: one.ask(("read", "t", key)) for key in copy_of(logs[0])} == copy_of(logs[0]), "the copies"
     assert set(one.ask(("all_keys", "t"))) <= set(copy_of(logs[0])), "no other records"
