@@ -105,16 +105,10 @@ def test_replies_between_unread_events(clients: List[Connection]) -> None:
             client.send(one_shot(("read", "t", 0)), one_shot(("read", "t", number)))
             time.sleep(QUIET)
     client.widen()
-    replies, events = [], []
-    while len(replies) + len(events) < count + 12:
-        term = client.receive()
-        (replies if term[0] == "reply" else events).append(term)
-    assert len(replies) == 12, "replies"
-    for line, reply in enumerate(replies):
-        number = 20 * (line // 2 + 1)
-        record = ("t", number, MIDDLE) if line % 2 else ("t", 0, LONG)
-        holds(f"reply {line}", reply == ("reply", ("atomic", [[record]])))
-    holds("events", [told[1][1][1] for told in events] == list(range(2, count + 2)))
+    for number in range(20, count + 1, 20):
+        for record in ("t", 0, LONG), ("t", number, MIDDLE):
+            holds(f"reply of {number}", client.reply() == ("atomic", [[record]]))
+    holds("events", [client.event()[1][1][1] for _ in range(count)] == list(range(2, count + 2)))
 
 
 @pytest.mark.usefixtures("plain")

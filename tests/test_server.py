@@ -15,9 +15,9 @@ from typing import Any, Callable, List
 import pytest
 
 from tests.lib.checks import ATOMIC, CREATE, END, HERE_OK, MARK, OK, QUIET, UNWATCH, add, at_last, begun, change, committed, event, follow
-from tests.lib.checks import holds, one_shot, raised, script, side_by_side, watch, write
+from tests.lib.checks import gets, holds, one_shot, raised, script, side_by_side, watch, write
 from tests.lib.playing import play, scripted
-from tests.lib.sending import Sent, both_ways, items, served
+from tests.lib.sending import Sent, both_ways, items, reads, served
 from tests.lib.servers import Server
 from tests.lib.wire import Connection, Term, frame
 
@@ -160,8 +160,7 @@ def test_an_outbox_of_one_item(clients: List[Connection]) -> None:
         numbers = range(first, first + 40)
         follow(watcher)
         writer.send(*(one_shot(write(number, 0)) for number in numbers))
-        for _ in numbers:
-            assert writer.receive() == ("reply", ("atomic", [OK])), "a commit"
+        gets(writer, *[("atomic", [OK]) for _ in numbers])
         for number in numbers:
             told = watcher.event()
             if told == ("mnesia_overflow", number):
@@ -211,10 +210,7 @@ def test_during_long_replies(clients: List[Connection]) -> None:
         time.sleep(QUIET)
         for key in range(first, first + each):
             change(writer, write(key, 0))
-        # On a busy machine events may come before it.
-        while (term := reader.receive())[0] != "reply":
-            reader.events.append(term)
-        holds("the reply is whole", term == ("reply", rows))
+        holds("the reply is whole", reader.reply() == rows)
         for key in range(first, first + each):
             assert reader.event() == event(key, 0, len(rows) + 2 + key), "event"
     script((reader, "commit", ("atomic", len(rows) + 5 * each + 1)))
@@ -234,19 +230,14 @@ def test_long_items(clients: List[Connection], sent: Sent) -> None:
         change(writer, ("write", row))
     mirror.send(("subscribe", detailed, "dump"))
     assert bool(select.select([mirror.socket], [], [], 10)[0]), "something is sent"
-    items: List[Any] = [("mnesia_table_begin", "t", "detailed", rows)]
+    wanted: List[Any] = [("mnesia_table_begin", "t", "detailed", rows)]
     for number, keys in enumerate(([16], [17], [0, 1, 2], [18], [3], [4, 19], [20]), len(rows) + 1):
         change(writer, *(write(key, 0) for key in keys))
-        items += changed(number, [(key, rows[key : key + 1]) for key in keys])
+        wanted += changed(number, [(key, rows[key : key + 1]) for key in keys])
     mirror.send(("unsubscribe", detailed))
-    items.append(END)
-    replies: List[Any] = []
-    while len(replies) < 2:
-        term = mirror.receive()
-        (replies if term[0] == "reply" else mirror.events).append(term)
-    assert replies == [("reply", HERE_OK)] * 2, "replies"
-    for line, item in enumerate(items):
-        holds(f"item {line}", mirror.event() == item)
+    wanted.append(END)
+    assert [mirror.reply(), mirror.reply()] == [HERE_OK] * 2, "replies"
+    reads(mirror, wanted)
 
 
 @served(5, "--batches", "--outbox", "1024")
