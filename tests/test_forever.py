@@ -204,7 +204,7 @@ def test_slow_transactions(server: Server) -> None:
 
 @seats(3, "--slow", "1", said=rf"(tabd: session \d{AT} had a transaction open for \d+ s\n)*")
 def test_a_contest_in_the_log(server: Server) -> None:
-    """Slow transactions that contend: the lines name the sessions, their clients, the tables of their locks, and the table and session that are waited for."""
+    """Slow transactions that contend: lines name sessions, clients, the tables of their locks, and the table and session that are waited for."""
     older, younger, third = server.connect(), server.connect(), server.connect()
     read_waits(older, younger)
     script((third, ("create_table", "u", []), ATOMIC), (third, "begin", ("tid", 3)))
