@@ -106,7 +106,7 @@ class Server:
 
     def proc(self, name: str) -> str:
         """What the system says of its process."""
-        return pathlib.Path(f"/proc/{self.process.pid}/{name}").read_text(encoding="ascii")
+        return pathlib.Path(f"/proc/{self.process.pid}/{name}").read_text(encoding="utf-8")
 
     def status(self) -> Dict[str, str]:
         lines = self.proc("status").splitlines()
