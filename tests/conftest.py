@@ -1,6 +1,7 @@
 """The program that is tested, the servers and connections that a case asks for, and how a run goes over several processors."""
 
 import contextlib
+import functools
 import os
 import resource
 import subprocess
@@ -10,8 +11,9 @@ import hypothesis
 import pytest
 from _pytest.runner import runtestprotocol
 
-pytest.register_assert_rewrite("tests.lib.checks", "tests.lib.servers", "tests.lib.refusing")
+pytest.register_assert_rewrite("tests.lib.checks", "tests.lib.playing", "tests.lib.servers", "tests.lib.refusing")
 
+from tests.lib.refusing import built  # noqa: E402
 from tests.lib.servers import Server  # noqa: E402
 from tests.lib.wire import Connection  # noqa: E402
 
@@ -68,6 +70,13 @@ def pytest_collection_modifyitems(config: pytest.Config, items: List[pytest.Item
             item.add_marker(pytest.mark.xdist_group("serial"))
 
 
+def pytest_generate_tests(metafunc: pytest.Metafunc) -> None:
+    """The cases of a seed: so many as the option that their module names."""
+    if "seed" in metafunc.fixturenames:
+        first = metafunc.config.getoption("--seed")
+        metafunc.parametrize("seed", range(first, first + metafunc.config.getoption(metafunc.module.SEEDS)))
+
+
 def pytest_runtest_protocol(item: pytest.Item, nextitem: Any) -> Any:
     """A case that has several tries passes if one of them does."""
     marker = item.get_closest_marker("tries")
@@ -105,6 +114,12 @@ def sanitizer(tabd: str) -> bool:
     """Whether the program was built with a sanitizer: it maps more addresses than any limit leaves, and keeps what is freed."""
     limit = lambda: resource.setrlimit(resource.RLIMIT_AS, (2**30, 2**30))
     return subprocess.run([tabd, "--version"], capture_output=True, preexec_fn=limit, check=False).returncode != 0
+
+
+@pytest.fixture(scope="session")
+def library(tmp_path_factory: pytest.TempPathFactory) -> Callable[[str], str]:
+    """Builds the library of a source in tests/lib, once."""
+    return functools.cache(lambda name: built(name, str(tmp_path_factory.mktemp(name))))
 
 
 @pytest.fixture

@@ -18,9 +18,9 @@ from typing import Any, Callable, List, Tuple
 
 import pytest
 
-from tests.lib.checks import ATOMIC, CREATE, OK, add, begun, change, committed, gets, one_shot, opened, read_waits, script, side_by_side, waits
-from tests.lib.checks import write
-from tests.lib.refusing import built
+from tests.lib.checks import ATOMIC, CREATE, OK, add, begun, change, committed, gets, one_shot, opened, raised, read_waits, script
+from tests.lib.checks import side_by_side, waits, write
+from tests.lib.playing import scripted
 from tests.lib.servers import Server
 from tests.lib.wire import Connection, Term, frame
 
@@ -88,40 +88,9 @@ def test_a_restart_comes(clients: List[Connection]) -> None:
     script((older, "commit", ("atomic", 1)), (younger, write(6, "c"), OK), (younger, "commit", ("atomic", 2)))
 
 
-@served(2)
-def test_two_upgrades(clients: List[Connection]) -> None:
-    """Both read, both write: the older waits until the younger was restarted."""
-    older, younger = clients
-    begun(older, younger)
-    script((older, READ, []), (younger, READ, []))
-    older.send(write(1, "a"))
-    waits(older)
-    script((younger, write(1, "b"), "restart"))
-    gets(older, OK)
-    script((older, "commit", ("atomic", 1)), (younger, READ, [("t", 1, "a")]))
-
-
-@served(3)
-def test_no_overtaking(clients: List[Connection]) -> None:
-    """A request after an older queued one backs off, though it does not conflict with the granted lock."""
-    first, second, third = clients
-    begun(first, second, third)
-    script((second, READ, []))
-    first.send(("write_lock_table", "t"))
-    waits(first)
-    script((third, ("read", "t", 2), "restart"), (second, "commit", ("atomic", 1)))
-    gets(first, OK)
-    script((first, ("abort", "no"), ("aborted", "no")), (third, ("read", "t", 2), []))
-
-
-@served(2)
-def test_phantom(clients: List[Connection]) -> None:
-    """A look-up by an index is not joined by a record that was not there."""
-    reader, writer = clients
-    create = ("create_table", "x", [("attributes", ["k", "v"]), ("index", ["v"])])
-    script((reader, create, ATOMIC))
-    opened(reader, writer)
-    script((reader, ("index_read", "x", "q", "v"), []), (writer, ("write", ("x", 9, "q")), "restart"))
+test_two_upgrades = served(2)(scripted("two upgrades"))
+test_no_overtaking = served(3)(scripted("no overtaking"))
+test_phantom = served(2)(scripted("phantom"))
 
 
 @served(2)
@@ -257,18 +226,9 @@ def test_long_answers(clients: List[Connection]) -> None:
 @served(16)
 def test_sixteen_raise(clients: List[Connection]) -> None:
     """Sixteen raise one record, each after a read for a write; how often they are restarted."""
-    each, restarts = 25, []
-
-    def raise_all(connection: Connection) -> None:
-        for _ in range(each):
-            restarts.append(add(connection, (1, 1)))
-            committed(connection)
-
-    table_of(clients[0])
-    side_by_side([(raise_all, (one,)) for one in clients])
-    count = each * len(clients)
-    script((clients[0], one_shot(READ), ("atomic", [[("t", 1, count)]])))
-    assert sum(restarts) <= 2 * count, f"{sum(restarts)} restarts of {count} transactions"
+    raises = raised(clients, 25)
+    restarts = sum(count for count, _ in raises)
+    assert restarts <= 2 * len(raises), f"{restarts} restarts of {len(raises)} transactions"
 
 
 @served(16)
@@ -345,12 +305,12 @@ def by_others(server: Server, load: str) -> Tuple[float, float]:
     return share, (busy() - before - own) / ((time.monotonic() - began) * (os.cpu_count() or 1))
 
 
-def test_no_one_polls_while_another_waits(serve: Callable[..., Server], tmp_path: Any) -> None:
+def test_no_one_polls_while_another_waits(serve: Callable[..., Server], library: Callable[[str], str], tmp_path: Any) -> None:
     """A session polls for the next request for a moment, since its client may ask at once; but not while another session waits for a lock,
     which it would take again before the other is awake."""
     file = tmp_path / "count"
     file.write_bytes(bytes(8))
-    env = {**os.environ, "LD_PRELOAD": built("counting", tmp_path), "COUNT": str(file)}
+    env = {**os.environ, "LD_PRELOAD": library("counting"), "COUNT": str(file)}
     server = serve("--connections", "2", env=env)
     older, younger = server.connect(), server.connect()
 

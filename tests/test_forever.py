@@ -9,12 +9,13 @@ import re
 import signal
 import subprocess
 import time
-from typing import Any, Callable, Iterator, Tuple
+from typing import Any, Callable, Iterator, List
 
 import pytest
 
 from tests.lib.checks import ATOMIC, CREATE, HERE_OK, LIMIT, OK, at_last, begun, change, event, fill_outbox, follow, gets, one_shot
 from tests.lib.checks import opened, overflow, read_waits, script, waits, watch, write
+from tests.lib.playing import scripted
 from tests.lib.servers import Server, descriptors, forever
 from tests.lib.wire import Connection, frame
 
@@ -39,6 +40,12 @@ def server(request: pytest.FixtureRequest, tabd: str, passed: Callable[[], bool]
         yield server
         if passed():
             assert re.fullmatch(mark.kwargs.get("said", ""), server.stopped()), "what it printed"
+
+
+@pytest.fixture
+def clients(server: Server, request: pytest.FixtureRequest) -> List[Connection]:
+    """As many as it serves."""
+    return server.clients(request.node.get_closest_marker("seats").args[0])
 
 
 @seats(8)
@@ -228,7 +235,7 @@ def test_slow_transactions(server: Server) -> None:
 
 @seats(3, "--slow", "1", said=rf"(tabd: session \d{AT} had a transaction open for \d+ s\n)*")
 def test_a_contest_in_the_log(server: Server) -> None:
-    """Slow transactions that contend: the lines name the sessions, their clients, the tables of their locks, and the table and session that are waited for."""
+    """Slow transactions that contend: lines name sessions, clients, the tables of their locks, and the table and session that are waited for."""
     older, younger, third = server.connect(), server.connect(), server.connect()
     read_waits(older, younger)
     script((third, ("create_table", "u", []), ATOMIC), (third, "begin", ("tid", 3)))
@@ -312,104 +319,13 @@ def test_an_end_without_forever(tabd: str, tmp_path: Any, place: str) -> None:
         server.ends()
 
 
-@seats(3)
-def test_broken_off_during_a_wait(server: Server) -> None:
-    """A client that breaks off while it waits leaves at once, also if it has sent a further request, and its locks are released."""
-    older, younger, third = server.clients(3)
-    read_waits(older, younger, (write(2, "a"), OK))
-    older.send(("read", "t", 3))
-    waits(older)
-    older.break_off()
-    script((third, "begin", ("tid", 3)))
-    assert at_last(third, ("wread", ("t", 2))) == [], "its lock is released"
-    script((younger, "commit", ("atomic", 1)))
-
-
-@seats(2)
-def test_half_closed_during_a_wait(server: Server) -> None:
-    """A client that half-closes while it waits, after a further request, has not broken off: it gets both replies."""
-    older, younger = server.clients(2)
-    read_waits(older, younger)
-    older.send(("read", "t", 3))
-    older.half_close()
-    waits(older)
-    script((younger, "commit", ("atomic", 1)))
-    gets(older, [("t", 1, "b")], [])
-    assert older.stream.read() == b"", "its end"
-
-
-ABORT = ("abort", "no")
-ABORTED = ("aborted", "no")
-
-
-def held(server: Server) -> Tuple[Any, ...]:
-    """An older session with two levels, whose read waits for a younger's write, and the younger."""
-    older, younger = server.clients(2)
-    read_waits(older, younger, ("begin", ("tid", 1)))
-    return older, younger
-
-
-@seats(2, "--abort-waits")
-def test_an_abort_ends_a_wait(server: Server) -> None:
-    """Only the abort is answered, and it ends one level. The dropped request is not queued any more; the next operation waits as before."""
-    older, younger = held(server)
-    script((older, ABORT, ABORTED))
-    older.send(("read", "t", 1))
-    waits(older)
-    # In pieces, of which the first are no frame.
-    for byte in frame(ABORT):
-        older.socket.sendall(bytes([byte]))
-        time.sleep(0.01)
-    assert older.receive() == ("reply", ABORTED), "in pieces"
-    script((older, "commit", ("error", "no_transaction")), (younger, write(2, "c"), OK), (younger, "commit", ("atomic", 1)))
-
-
-@seats(2, "--abort-waits")
-def test_an_abort_in_the_same_piece(server: Server) -> None:
-    """In one piece, the abort after the operation ends its wait, and the requests after the abort are answered."""
-    older, younger = held(server)
-    script((older, ABORT, ABORTED))
-    older.send(("read", "t", 2), ("read", "t", 1), ABORT, "begin")
-    gets(older, [], ABORTED, ("tid", 3))
-    # An abort after an operation that does not wait is answered after it.
-    older.send(("read", "t", 2), ABORT)
-    gets(older, [], ABORTED)
-    script((younger, "commit", ("atomic", 1)))
-
-
-@seats(2, "--abort-waits")
-def test_others_are_answered_after_a_wait(server: Server) -> None:
-    """Another request after an operation that waits is answered after it, and so is an abort after that request."""
-    older, younger = held(server)
-    older.send(("read", "t", 2), ABORT)
-    waits(older)
-    script((younger, "commit", ("atomic", 1)))
-    gets(older, [("t", 1, "b")], [], ABORTED)
-
-
-@seats(2)
-def test_an_abort_is_answered_after_a_wait(server: Server) -> None:
-    """Without the option an abort is answered after the operation that waits."""
-    older, younger = held(server)
-    older.send(ABORT)
-    waits(older)
-    script((younger, "commit", ("atomic", 1)))
-    gets(older, [("t", 1, "b")], ABORTED)
-
-
-@seats(3, "--abort-waits")
-def test_an_abort_ends_a_one_shot(server: Server) -> None:
-    """A one-shot that waits, for a younger transaction's lock after an older one's, is given up."""
-    first, asker, younger = server.clients(3)
-    begun(first)
-    script((first, write(1, "a"), OK))
-    asker.send(one_shot(write(1, "b"), write(2, "b"), retries=1000))
-    waits(asker)
-    script((younger, "begin", ("tid", 3)), (younger, write(2, "c"), OK), (first, "commit", ("atomic", 1)))
-    waits(asker)
-    asker.send(ABORT)
-    gets(asker, ("aborted", "nowait"), ("error", "no_transaction"))
-    script((younger, "commit", ("atomic", 2)), (first, "begin", ("tid", 4)), (first, ("read", "t", 1), [("t", 1, "a")]))
+test_broken_off_during_a_wait = seats(3)(scripted("broken off during a wait"))
+test_half_closed_during_a_wait = seats(2)(scripted("half-closed during a wait"))
+test_an_abort_ends_a_wait = seats(2, "--abort-waits")(scripted("an abort ends a wait"))
+test_an_abort_in_the_same_piece = seats(2, "--abort-waits")(scripted("an abort in the same piece"))
+test_others_are_answered_after_a_wait = seats(2, "--abort-waits")(scripted("others are answered after a wait"))
+test_an_abort_is_answered_after_a_wait = seats(2)(scripted("an abort is answered after a wait"))
+test_an_abort_ends_a_one_shot = seats(3, "--abort-waits")(scripted("an abort ends a one-shot"))
 
 
 @seats(2, "--abort-waits")

@@ -18,7 +18,7 @@ from tests.lib.rounds import Rounds
 from tests.lib.standin import WRONG, DropsAnEvent, Wrong
 
 TOP = os.path.dirname(os.path.dirname(os.path.abspath(__file__)))
-ROUND = 4.0
+SEEDS, ROUND = "--rounds", 4.0
 # Of a wrong server the rounds are longer and longer: if the machine does much else, little happens in one.
 ROUNDS = [1.2, 4.0, 8.0]
 
@@ -26,12 +26,6 @@ ROUNDS = [1.2, 4.0, 8.0]
 @pytest.fixture
 def rounds(serve: Callable[..., Any], tmp_path: Any) -> Rounds:
     return Rounds(serve, tmp_path)
-
-
-def pytest_generate_tests(metafunc: pytest.Metafunc) -> None:
-    if "seed" in metafunc.fixturenames:
-        first = metafunc.config.getoption("--seed")
-        metafunc.parametrize("seed", range(first, first + metafunc.config.getoption("--rounds")))
 
 
 @pytest.mark.serial

@@ -8,7 +8,7 @@ from typing import Any, Callable, Type
 
 import pytest
 
-from tests import test_server
+from tests.lib.playing import play
 from tests.lib.servers import Server
 from tests.lib.standin import IN_TURN, Wrong
 from tests.lib.wire import Connection
@@ -24,10 +24,10 @@ def test_it_is_found(serve: Callable[..., Server], wrong: Type[Any]) -> None:
     older, younger = Connection(port), Connection(port)
     younger.socket.settimeout(MISSING)
     with pytest.raises(TimeoutError):
-        test_server.test_woken([older, younger], "commit", ("atomic", 2), 2)
+        play([older, younger], "woken by a commit")
 
 
 def test_one_that_changes_nothing_is_not_found(serve: Callable[..., Server]) -> None:
     place: Any = serve("--connections", "3").place
     port = Wrong(place).listener.getsockname()[1]
-    test_server.test_woken([Connection(port), Connection(port)], "commit", ("atomic", 2), 2)
+    play([Connection(port), Connection(port)], "woken by a commit")

@@ -12,7 +12,6 @@ from typing import Any, Callable, Dict, List
 import pytest
 
 from tests.lib.checks import ATOMIC, CREATE, HERE_OK, OK, committed, gets, opened, script, watch, write
-from tests.lib.refusing import built
 from tests.lib.rounds import Rounds
 from tests.lib.servers import Server
 from tests.lib.wire import Connection
@@ -22,18 +21,7 @@ pytestmark = pytest.mark.usefixtures("plain")
 # So many waits at once, each for a lock of its own, in so many turns; their ends are watched by so many sessions. A session that waits asks for
 # its lock once more after twenty milliseconds, and the locks are free at about that time.
 WAITS, TURNS, WATCHERS, FREE = 8, 20, 2, (0.015, 0.025)
-ROUND = 0.6
-
-
-def pytest_generate_tests(metafunc: pytest.Metafunc) -> None:
-    if "seed" in metafunc.fixturenames:
-        first = metafunc.config.getoption("--seed")
-        metafunc.parametrize("seed", range(first, first + metafunc.config.getoption("--seeds")))
-
-
-@pytest.fixture(scope="module")
-def library(tmp_path_factory: pytest.TempPathFactory) -> str:
-    return built("delaying", str(tmp_path_factory.mktemp("delaying")))
+SEEDS, ROUND = "--seeds", 0.6
 
 
 def processors(seed: int) -> List[int]:
@@ -43,15 +31,10 @@ def processors(seed: int) -> List[int]:
 
 
 @pytest.fixture
-def delayed(library: str, seed: int) -> Dict[str, Any]:
+def delayed(library: Callable[[str], str], seed: int) -> Dict[str, Any]:
     """How the server is started."""
-    env = {**os.environ, "LD_PRELOAD": library, "SEED": str(seed)}
+    env = {**os.environ, "LD_PRELOAD": library("delaying"), "SEED": str(seed)}
     return {"env": env, "preexec_fn": lambda: os.sched_setaffinity(0, processors(seed))}
-
-
-def is_loaded(server: Server, library: str) -> bool:
-    with open(f"/proc/{server.process.pid}/maps", encoding="utf-8") as file:
-        return library in file.read()
 
 
 def turn(older: List[Connection], younger: List[Connection], value: int, chance: random.Random) -> None:
@@ -71,11 +54,11 @@ def turn(older: List[Connection], younger: List[Connection], value: int, chance:
         committed(connection)
 
 
-def test_who_waits_is_woken(serve: Callable[..., Server], library: str, delayed: Dict[str, Any], seed: int) -> None:
+def test_who_waits_is_woken(serve: Callable[..., Server], delayed: Dict[str, Any], seed: int) -> None:
     """A session that is not woken sleeps for ever, however busy the machine is, so its reply never comes."""
     delayed["env"]["ENDLESS"] = "1"
     server = serve("--connections", str(2 * WAITS + WATCHERS), **delayed)
-    if not is_loaded(server, library):
+    if delayed["env"]["LD_PRELOAD"] not in server.proc("maps"):
         pytest.skip("the program takes no LD_PRELOAD")
     connections, watchers, chance = server.clients(2 * WAITS), server.clients(WATCHERS), random.Random(seed)
     script((connections[0], CREATE, ATOMIC), *((watcher, watch(), HERE_OK) for watcher in watchers))

@@ -1,7 +1,7 @@
 """The built program over command lines and sessions: exit status, standard output and standard error.
 
 The code between the proved function `run` and the operating system has no contract: the arguments of the process, its
-streams, its status. Expected values are written here by hand; test_streams.py has the streams that another program made.
+streams, its status. Expected values are written by hand; test_streams.py has the streams that another program made.
 """
 
 import os
@@ -13,7 +13,8 @@ from typing import Any, Iterator, List, Tuple
 import pytest
 
 from tests.lib.checks import ATOMIC, CREATE, HERE_OK, MARK, OK, event, watch, write
-from tests.lib.streams import DAMAGED, DEVICE, Step, of_steps
+from tests.lib.notation import Step, columns_of
+from tests.lib.streams import DAMAGED, DEVICE, of_steps
 from tests.lib.wire import Term, frame, frames
 
 LONGEST = 1_048_576
@@ -25,52 +26,7 @@ LITTLE = 64 * 1_048_576
 FOR_A_MAP = 48 * 1_048_576
 ASKED, CLOSED = frame((1, "join")), DEVICE + b"tabd: a standard stream is closed\n"
 SERVE = ["serve", "--port", "0", "--connections", "1"]
-
-# The messages about required options, and the usage of `serve`.
-MISSING, COUNT = b"error: the following required arguments were not provided:\n", b"  --connections <COUNT>\n"
-ADDRESS, BOTH = b"  <--port <PORT>|--socket <PATH>>\n", b"error: the argument '--port <PORT>' cannot be used with '--socket <PATH>'\n"
-USAGE = b"\nUsage: tabd serve [OPTIONS] --connections <COUNT> <--port <PORT>|--socket <PATH>>\n"
-
-# Arguments, the status, and the beginnings of standard output and standard error; if a text is empty, the stream has to be empty.
-WORDS: List[Any] = [
-    ([], 2, b"", b"error: "),
-    (["nosuch"], 2, b"", b"error: "),
-    (["servo"], 2, b"", b"error: "),
-    (["replay", "nosuch"], 2, b"", b"error: "),
-    (["replay", "replay"], 2, b"", b"error: "),
-    (["--nosuch"], 2, b"", b"error: "),
-    (["replay", "--outbox"], 2, b"", b"error: "),
-    (["replay", "--outbox", "0"], 2, b"", b"error: "),
-    (["replay", "--outbox", "65537"], 2, b"", b"error: "),
-    (["replay", "--outbox", "many"], 2, b"", b"error: "),
-    (["replay", "--outbox", "1"], 0, b"", b""),
-    (["replay", "--outbox", "65536"], 0, b"", b""),
-    (["replay", "--outbox=3"], 0, b"", b""),
-    ([b"\xff\xfe"], 2, b"", b"error: "),
-    (["serve"], 2, b"", MISSING + COUNT + ADDRESS + USAGE),
-    (["serve", "--port", "0"], 2, b"", MISSING + COUNT + USAGE),
-    (["serve", "--connections", "1"], 2, b"", MISSING + ADDRESS + USAGE),
-    (["serve", "--port", "0", "--socket", "no/socket", "--connections", "1"], 2, b"", BOTH + USAGE),
-    (["serve", "--port", "0", "--socket", "no/socket"], 2, b"", BOTH + USAGE),
-    (["serve", "--socket", "no/socket"], 2, b"", MISSING + COUNT + USAGE),
-    (["serve", "--socket", "", "--connections", "1"], 2, b"", b"error: the path of --socket <PATH> is empty\n" + USAGE),
-    (["serve", "--socket", "--connections", "1"], 2, b"", b"error: "),
-    (["serve", "--socket", "no/socket", "--socket", "no/socket", "--connections", "1"], 2, b"", b"error: "),
-    (["serve", "--port", "65536", "--connections", "1"], 2, b"", b"error: "),
-    (["serve", "--port", "0", "--connections", "0"], 2, b"", b"error: "),
-    (["serve", "--port", "0", "--connections", "65"], 2, b"", b"error: "),
-    (["serve", "--port", "0", "--connections", "1", "--journal", "15"], 2, b"", b"error: "),
-    (["serve", "--port", "0", "--connections", "1", "--journal", "65537"], 2, b"", b"error: "),
-    (["serve", "--port", "0", "--connections", "1", "--outbox", "0"], 2, b"", b"error: "),
-    (["serve", "--port", "0", "--connections", "1", "--idle", "0"], 2, b"", b"error: "),
-    (["serve", "--port", "0", "--connections", "1", "--idle", "86401"], 2, b"", b"error: "),
-    (["--version"], 0, b"tabd 0.1.0\n", b""),
-    (["--help"], 0, b"A server of named in-memory tables", b""),
-    (["serve", "--port", "0", "--connections", "1", "--drain=1"], 2, b"", b"error: "),
-    (["serve", "--drain"], 2, b"", MISSING + COUNT + ADDRESS + USAGE),
-    (["serve", "--help"], 0, b"Serves each connection to a port or a socket file as a session\n" + USAGE, b""),
-    (["replay", "--help"], 0, b"Answers the frames of standard input", b""),
-]
+COMMAND_LINES = list(columns_of("command_lines.tsv"))
 
 
 def longest(size: int) -> Any:
@@ -174,10 +130,14 @@ def is_told(wanted: Any, found: Any) -> Any:
     return found.startswith(wanted) if wanted else not found
 
 
-@pytest.mark.parametrize("words, status, out, err", WORDS, ids=[" ".join(map(str, words)) or "none" for words, *_ in WORDS])
-def test_arguments(tabd: str, words: Any, status: int, out: Any, err: Any) -> None:
-    found = run(tabd, words, stdin=subprocess.DEVNULL, stdout=subprocess.PIPE)
-    assert found[0] == status and is_told(out, found[1]) and is_told(err, found[2]), found
+def unescaped(text: str) -> bytes:
+    return text.encode().decode("unicode_escape").encode("latin-1")
+
+
+@pytest.mark.parametrize("words, out, err, status", COMMAND_LINES, ids=[words or "none" for words, *_ in COMMAND_LINES])
+def test_arguments(tabd: str, words: str, out: str, err: str, status: str) -> None:
+    found = run(tabd, [unescaped(word) for word in words.split(" ")] if words else [], stdin=subprocess.DEVNULL, stdout=subprocess.PIPE)
+    assert found[0] == int(status) and is_told(unescaped(out), found[1]) and is_told(unescaped(err), found[2]), found
 
 
 BEGUN = frames((1, "ok"), (1, ("atomic", "ok")), (1, ("tid", 1)))

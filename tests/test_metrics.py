@@ -10,8 +10,8 @@ from typing import Any, Callable, Dict, Iterator, List
 
 import pytest
 
-from tests.lib.checks import ATOMIC, CREATE, HERE_OK, LIMIT, OK, UNWATCH, begun, change, fill_outbox, gets, one_shot, opened, overflow, read_waits, same
-from tests.lib.checks import script, side_by_side, soon, watch, write
+from tests.lib.checks import ATOMIC, CREATE, HERE_OK, LIMIT, OK, UNWATCH, begun, change, fill_outbox, gets, one_shot, opened, overflow, read_waits
+from tests.lib.checks import same, script, side_by_side, soon, watch, write
 from tests.lib.servers import COUNTED, Client, Metered, Server
 
 # A client of the page has so many seconds for its request; another is answered in less meanwhile.

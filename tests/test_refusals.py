@@ -3,7 +3,7 @@
 Each stream of streams.py, but those that take a thousand operations and those that are damaged, is asked frame by frame, once
 for each allocation that it makes: with the nth refused. A request with the reply `{error, no_memory}` is sent again at once, and then
 all replies are the stream's. A run may instead end with status 1 and its line if memory was refused at the start or for the
-frame itself, after the replies to all earlier frames. A one-shot uses up an age, so each of one_shots.py has runs of its own, with a probe
+frame itself, after the replies to all earlier frames. A one-shot uses up an age, so each of one_shots.txt has runs of its own, with a probe
 after it: it left no level, no lock, no request and no change. On a connection each larger allocation is refused, so that there is no memory
 for a long frame: the reply says so, and the session goes on. No contract ties a reply to refused memory, so only these tests show it.
 With `--wrong` the program is each of a few wrong ones, which end by themselves if they are refused memory, and each has to be found in
@@ -18,8 +18,8 @@ from typing import Any, Callable, List
 import pytest
 
 from tests.lib.checks import ATOMIC, CREATE
-from tests.lib.one_shots import ONE_SHOTS, PROBED
-from tests.lib.refusing import NO_MEMORY, RefusedReplay, built, is_no_memory, tried
+from tests.lib.notation import Cases
+from tests.lib.refusing import NO_MEMORY, RefusedReplay, is_no_memory, tried
 from tests.lib.servers import Server
 from tests.lib.streams import streams
 from tests.lib.wire import frame, term_of
@@ -117,7 +117,9 @@ def shifted(term: Any, last: int, by: int) -> Any:
 
 
 ROWS = [stream for stream in streams() if stream.name not in LEFT_OUT and stream.given and b"\x77\x0btransaction" not in stream.all]
-SHOTS = list(itertools.starmap(OneShot, ONE_SHOTS))
+ONE_SHOTS = Cases("one_shots.txt", 5)
+PROBED = ONE_SHOTS.steps["the probe"]
+SHOTS = [OneShot(name, ONE_SHOTS.joined(before), request, reply, ONE_SHOTS.joined(after)) for name, before, request, reply, after in ONE_SHOTS.rows]
 IN_STREAMS = [
     OneShotOfAStream(stream, place)
     for stream in streams()
@@ -129,14 +131,9 @@ BEGUN = [case for case in IN_STREAMS if case.reply not in NOT_BEGUN]
 
 
 @pytest.fixture(scope="session")
-def library(tmp_path_factory: pytest.TempPathFactory) -> Any:
-    return built("refusing_replay", tmp_path_factory.mktemp("refusing"))
-
-
-@pytest.fixture(scope="session")
-def replay(tabd: str, library: str) -> Any:
+def replay(tabd: str, library: Callable[[str], str]) -> Any:
     """Starts a replay with some options whose nth allocation is refused."""
-    start = partial(RefusedReplay, tabd, library)
+    start = partial(RefusedReplay, tabd, library("refusing_replay"))
     with start(["replay"], 1) as run:
         run.ask(frame((1, "join")))
         if not run.ended()[0]:
@@ -295,9 +292,9 @@ def test_what_a_one_shot_leaves_is_found(replay: Any, left: Any, case: Any) -> N
     assert faults_in_stream(replay, case, left([*case.tables, "t"][0]))
 
 
-def test_a_served_frame(replay: Any, serve: Callable[..., Server], library: str) -> None:
+def test_a_served_frame(replay: Any, serve: Callable[..., Server], library: Callable[[str], str]) -> None:
     """A frame on a connection for which no memory is found, cut in several ways, between two that find some."""
-    connection = serve("--connections", "1", env={"LD_PRELOAD": library, "LARGEST": "300000"}).connect()
+    connection = serve("--connections", "1", env={"LD_PRELOAD": library("refusing_replay"), "LARGEST": "300000"}).connect()
     short, long = frame(("read", "t", 1)), frame(("write", ("t", 1, bytes(900_000))))
     assert [connection.ask(CREATE), connection.ask("begin")] == [ATOMIC, ("tid", 1)]
     for cut in (0, 1, 4, 70_000, 400_000, len(long) - 1):

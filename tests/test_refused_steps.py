@@ -9,11 +9,9 @@ with one refusal: `rt try --test --fail-alloc N -- refused` in crates/tab_book_t
 import itertools
 import os
 import subprocess
-from typing import Any, Tuple
+from typing import Any, Callable, List, Tuple
 
 import pytest
-
-from tests.lib.refusing import built
 
 TEST = "refused::a_refused_step_is_made_again"
 NO_BOOK = b"no book"
@@ -31,14 +29,14 @@ def run(tests: Any, library: str, nth: int, report: Any) -> Tuple[Any, ...]:
     return done.returncode, done.stdout, os.fstat(report.fileno()).st_size > 0
 
 
-def test_refused_steps(tabd: str, tmp_path: Any) -> None:
+def test_refused_steps(tabd: str, library: Callable[[str], str], tmp_path: Any) -> None:
     tests = os.path.join(os.path.dirname(tabd), "../../tab_book_tests/out/tab_book_tests_tests")
     if not os.path.exists(tests):
         pytest.skip(f"{tests} is not built: rt test in crates/tab_book_tests builds it")
-    library, faults = built("refusing_replay", tmp_path), []
+    faults: List[str] = []
     with open(tmp_path / "report", "w+b") as report:
         for nth in itertools.count(1):
-            status, said, is_refused = run(tests, library, nth, report)
+            status, said, is_refused = run(tests, library("refusing_replay"), nth, report)
             if status and not (is_refused and NO_BOOK in said):
                 faults.append(f"allocation {nth}: status {status}, {said[-200:]!r}")
             if not is_refused:

@@ -10,17 +10,10 @@ from typing import Callable, List
 
 import pytest
 
-from tests.lib.checks import ATOMIC, CREATE, END, HERE_OK, MARK, OK, QUIET, event, holds, one_shot, script, side_by_side, watch, write
-from tests.lib.refusing import built
+from tests.lib.checks import ATOMIC, CREATE, END, HERE_OK, OK, QUIET, UNWATCH, change, event, follow, holds, one_shot, script, side_by_side, write
+from tests.lib.sending import Sent, both_ways, commit_all, items, reads, served, watched
 from tests.lib.servers import Server
 from tests.lib.wire import Closed, Connection, Term
-
-served = pytest.mark.served
-
-# How the events of a commit are sent, by its number.
-Sent = Callable[[int, List[Term]], List[Term]]
-apart: Sent = lambda number, events: events
-together: Sent = lambda number, events: [("batch", number, events)]
 
 # An event comes after so many seconds at most, also on a busy machine.
 DELAY = 5.0
@@ -28,47 +21,17 @@ DELAY = 5.0
 LONG, MIDDLE, SHORT = bytes(100_000), bytes(4_000), b"s"
 
 
-def subscribed(*connections: Connection) -> None:
-    script(*((connection, watch(), HERE_OK) for connection in connections))
-    for connection in connections:
-        assert connection.event() == MARK, "begin marker"
-
-
-def commit(writer: Connection, number: int, value: bytes) -> None:
-    """The commit of this number writes the key of this number, in the transaction of this age."""
-    script((writer, one_shot(write(number, value)), ("atomic", [OK])))
-
-
-def reads(connection: Connection, wanted: List[Term]) -> None:
-    for line, term in enumerate(wanted):
-        holds(f"item {line}", connection.event() == term)
-
-
-def reads_to_end(connection: Connection, wanted: List[Term]) -> None:
-    """These, and then its end."""
-    reads(connection, wanted)
-    with pytest.raises(Closed):
-        connection.receive()
-
-
-@pytest.mark.parametrize(
-    "sent",
-    [
-        pytest.param(apart, id="of events", marks=served(3, "--outbox", "1024", small=True)),
-        pytest.param(together, id="of batches", marks=served(3, "--outbox", "1024", "--batches", small=True)),
-    ],
-)
+@both_ways("of events", "of batches", 3, "--outbox", "1024", small=True)
 def test_a_slow_reader_delays_no_one(clients: List[Connection], sent: Sent) -> None:
     """One reads nothing: another's events come at once, and its own come whole and in order as soon as it reads."""
     idle, writer, reader = clients
-    script((writer, CREATE, ATOMIC))
-    subscribed(idle, reader)
+    watched(writer, idle, reader)
     # More than the buffers of any socket hold.
     values = [LONG if number % 20 == 0 else MIDDLE for number in range(1, 301)]
-    wanted = [sent(number, [event(number, value, number)])[0] for number, value in enumerate(values, 1)]
+    wanted = items(values, sent)
     for number, value in enumerate(values, 1):
         begun = time.monotonic()
-        commit(writer, number, value)
+        change(writer, write(number, value))
         holds("the one that reads", reader.event() == wanted[number - 1])
         assert time.monotonic() - begun < DELAY, "it comes late"
     idle.widen()
@@ -80,11 +43,10 @@ def test_eight_subscribers(clients: List[Connection]) -> None:
     """Of four writers' commits each of eight gets each event once, in the same order, in which each writer's are in its own."""
     writers, readers = clients[:4], clients[4:]
     each = 100
-    script((writers[0], CREATE, ATOMIC))
-    subscribed(*readers)
+    watched(writers[0], *readers)
     logs: List[List[Term]] = [[] for _ in readers]
 
-    def commit_all(writer: Connection, first: int) -> None:
+    def commit_keys(writer: Connection, first: int) -> None:
         for key in range(first, first + each):
             assert writer.ask(one_shot(write(key, SHORT), retries=1000)) == ("atomic", [OK]), "a commit"
 
@@ -93,7 +55,7 @@ def test_eight_subscribers(clients: List[Connection]) -> None:
             log.append(reader.event())
 
     follows = [(follow, (reader, log)) for reader, log in zip(readers, logs)]
-    side_by_side([*follows, *((commit_all, (writer, 1000 * number)) for number, writer in enumerate(writers))])
+    side_by_side([*follows, *((commit_keys, (writer, 1000 * number)) for number, writer in enumerate(writers))])
     keys = [told[1][1][1] for told in logs[0]]
     assert sorted(keys) == [1000 * number + key for number in range(len(writers)) for key in range(each)], "each once"
     for number in range(len(writers)):
@@ -105,41 +67,27 @@ def test_eight_subscribers(clients: List[Connection]) -> None:
 def test_subscribers_that_close(clients: List[Connection]) -> None:
     """Two close while events are on their way, one of them with events unread: the others get all."""
     reader, writer, quits, breaks, late = clients
-    script((writer, CREATE, ATOMIC))
-    subscribed(reader, quits, breaks)
-    count = 200
-    for number in range(1, count + 1):
-        commit(writer, number, MIDDLE)
+    watched(writer, reader, quits, breaks)
+    wanted = items([MIDDLE] * 200)
+    for number in range(1, len(wanted) + 1):
+        change(writer, write(number, MIDDLE))
         if number == 50:
             quits.close()
         if number == 100:
             breaks.break_off()
-            subscribed(late)
-    wanted = [event(number, MIDDLE, number) for number in range(1, count + 1)]
+            follow(late)
     reads(reader, wanted)
     reads(late, wanted[100:])
 
 
-@pytest.mark.parametrize(
-    "sent",
-    [
-        pytest.param(apart, id="of events", marks=served(3, "--outbox", "1024")),
-        pytest.param(together, id="of batches", marks=served(3, "--outbox", "1024", "--batches")),
-    ],
-)
+@both_ways("of events", "of batches", 3, "--outbox", "1024")
 def test_long_and_short_items(clients: List[Connection], sent: Sent) -> None:
     """Long items are in order with short ones, for one that reads meanwhile and for one that reads later."""
     writer, reader, late = clients
-    script((writer, CREATE, ATOMIC))
-    subscribed(reader, late)
+    watched(writer, reader, late)
     values = [(SHORT, LONG, MIDDLE, LONG, SHORT)[number % 5] for number in range(100)]
-    wanted = [sent(number, [event(number, value, number)])[0] for number, value in enumerate(values, 1)]
-
-    def commit_all() -> None:
-        for number, value in enumerate(values, 1):
-            commit(writer, number, value)
-
-    side_by_side([(reads, (reader, wanted)), (commit_all, ())])
+    wanted = items(values, sent)
+    side_by_side([(reads, (reader, wanted)), (commit_all, (writer, values))])
     reads(late, wanted)
 
 
@@ -148,47 +96,31 @@ def test_replies_between_unread_events(clients: List[Connection]) -> None:
     """Replies to a client that reads nothing do not come inside of an event that was begun, nor does an event come inside of them."""
     client, writer = clients
     count = 120
-    script((writer, CREATE, ATOMIC), (writer, one_shot(write(0, LONG)), ("atomic", [OK])))
-    subscribed(client)
+    script((writer, CREATE, ATOMIC))
+    change(writer, write(0, LONG))
+    follow(client)
     for number in range(2, count + 2):
-        commit(writer, number, MIDDLE)
+        change(writer, write(number, MIDDLE))
         if number % 20 == 0:
             client.send(one_shot(("read", "t", 0)), one_shot(("read", "t", number)))
             time.sleep(QUIET)
     client.widen()
-    replies, events = [], []
-    while len(replies) + len(events) < count + 12:
-        term = client.receive()
-        (replies if term[0] == "reply" else events).append(term)
-    assert len(replies) == 12, "replies"
-    for line, reply in enumerate(replies):
-        number = 20 * (line // 2 + 1)
-        record = ("t", number, MIDDLE) if line % 2 else ("t", 0, LONG)
-        holds(f"reply {line}", reply == ("reply", ("atomic", [[record]])))
-    holds("events", [told[1][1][1] for told in events] == list(range(2, count + 2)))
-
-
-@pytest.fixture(scope="module")
-def partial(tmp_path_factory: pytest.TempPathFactory) -> str:
-    return built("partial", str(tmp_path_factory.mktemp("partial")))
+    for number in range(20, count + 1, 20):
+        for record in ("t", 0, LONG), ("t", number, MIDDLE):
+            holds(f"reply of {number}", client.reply() == ("atomic", [[record]]))
+    holds("events", [client.event()[1][1][1] for _ in range(count)] == list(range(2, count + 2)))
 
 
 @pytest.mark.usefixtures("plain")
 @pytest.mark.parametrize("takes", ["part", "none"])
-def test_sends_that_take_a_part(serve: Callable[..., Server], partial: str, takes: str) -> None:
+def test_sends_that_take_a_part(serve: Callable[..., Server], library: Callable[[str], str], takes: str) -> None:
     """Each send without a wait takes a part of the bytes, or none: what is left comes before all else."""
-    server = serve("--connections", "3", "--outbox", "1024", env={**os.environ, "LD_PRELOAD": partial, "TAKES": takes})
-    writer, reader, late = (server.connect() for _ in range(3))
-    script((writer, CREATE, ATOMIC))
-    subscribed(reader, late)
+    server = serve("--connections", "3", "--outbox", "1024", env={**os.environ, "LD_PRELOAD": library("partial"), "TAKES": takes})
+    writer, reader, late = server.clients(3)
+    watched(writer, reader, late)
     values = [(SHORT, MIDDLE, MIDDLE, LONG)[number % 4] for number in range(200)]
-    wanted = [event(number, value, number) for number, value in enumerate(values, 1)]
-
-    def commit_all() -> None:
-        for number, value in enumerate(values, 1):
-            commit(writer, number, value)
-
-    side_by_side([(reads, (reader, wanted)), (commit_all, ())])
+    wanted = items(values)
+    side_by_side([(reads, (reader, wanted)), (commit_all, (writer, values))])
     # A reply comes between two events.
     script((late, "commit", ("error", "no_transaction")))
     reads(late, wanted)
@@ -199,15 +131,15 @@ def test_sends_that_take_a_part(serve: Callable[..., Server], partial: str, take
 def test_unread_events_at_the_end(clients: List[Connection], value: bytes) -> None:
     """The stream of one that has read no event ends: its session leaves, and what was committed before comes still."""
     client, writer = clients
-    script((writer, CREATE, ATOMIC))
-    subscribed(client)
-    count = 60
-    for number in range(1, count + 1):
-        commit(writer, number, value)
+    watched(writer, client)
+    values = [value] * 60
+    commit_all(writer, values)
     client.half_close()
     time.sleep(QUIET)
     client.widen()
-    reads_to_end(client, [event(number, value, number) for number in range(1, count + 1)])
+    reads(client, items(values))
+    with pytest.raises(Closed):
+        client.receive()
 
 
 @served(2, "--outbox", "1024")
@@ -216,10 +148,10 @@ def test_subscribed_again(clients: List[Connection]) -> None:
     client, writer = clients
     script((writer, CREATE, ATOMIC))
     for number in range(1, 40, 2):
-        subscribed(client)
-        commit(writer, number, SHORT)
+        follow(client)
+        change(writer, write(number, SHORT))
         assert client.event() == event(number, SHORT, number), "an event"
-        script((client, ("unsubscribe", ("table", "t", "simple")), HERE_OK))
+        script((client, UNWATCH, HERE_OK))
         assert client.event() == END, "end marker"
-        commit(writer, number + 1, SHORT)
+        change(writer, write(number + 1, SHORT))
     assert not client.events, "no more"

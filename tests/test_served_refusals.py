@@ -13,17 +13,16 @@ import select
 import sys
 from dataclasses import dataclass
 from functools import partial
-from typing import Any, Callable, List, Sequence, Tuple, Union
+from typing import Any, Callable, List, Sequence, Union
 
 import pytest
 
 from tests.lib.checks import ATOMIC, HERE_OK, MARK, OK, event, same, script, soon, watch, write
-from tests.lib.refusing import NO_MEMORY, RefusedServer, built, tried
+from tests.lib.notation import Cases, Step
+from tests.lib.refusing import NO_MEMORY, RefusedServer, tried
 from tests.lib.wire import Connection, Term
 
-# A connection's number, its request and the reply.
-Step = Tuple[int, Term, Term]
-
+OF_FILE = Cases("refused.txt", 6)
 # The frame that is read takes the first allocations: the bytes, the payload, and the list of the frames.
 OF_A_FRAME = 3
 # No request takes so many: it is counted, and nothing refused.
@@ -59,22 +58,19 @@ def probe(connection: Connection) -> None:
 
 @dataclass
 class Case:
-    """What connections 1 and 2 are asked before, a request of connection 1 and its reply; whether it is asked in a transaction,
-    whether it waits for the transaction of connection 2, and whether it puts a marker, for which it may be closed."""
+    """What connections 1 and 2 are asked before, a request of connection 1 and its reply; what else is so (refused.txt), and the options."""
 
     name: str
     before: Sequence[Step]
     request: Term
     reply: Term
-    inside: bool = False
-    waits: bool = False
-    marks: bool = False
+    how: Sequence[str]
     words: Sequence[str] = ()
 
     def told(self, first: Connection, second: Connection) -> Term:
         """The reply. The second commits if the first waits for it; this may be refused too."""
         first.send(self.request)
-        if self.waits and not select.select([first.socket], [], [], QUIET)[0]:
+        if "waits" in self.how and not select.select([first.socket], [], [], QUIET)[0]:
             with contextlib.suppress(ConnectionError):
                 second.ask("commit")
             second.close()
@@ -85,12 +81,12 @@ class Case:
 
     def again(self, first: Connection, second: Connection, other: Connection) -> None:
         """After `no_memory` nothing is left of it. Sent again it gets its reply."""
-        if self.waits:
+        if "waits" in self.how:
             # It waits again if the second's transaction is still open, and ends.
             first.send(self.request)
             second.close()
             same("again", first.reply(), self.reply)
-        elif self.inside:
+        elif "inside" in self.how:
             is_free(other, "u")
             script((first, self.request, self.reply))
         else:
@@ -125,7 +121,7 @@ class Case:
             return "replied no_memory"
         if told == self.reply:
             return "got its reply"
-        if told == "closed" and self.marks and nth > OF_A_FRAME:
+        if told == "closed" and "marks" in self.how and nth > OF_A_FRAME:
             return "were closed for an event"
         if told == "closed" and nth >= self.all:
             return "were closed for a reply's frame"
@@ -225,67 +221,26 @@ class Joins:
         return "got its reply"
 
 
-TID, IN_T = ("tid", 1), [(1, "begin", ("tid", 1)), (1, write(1, "a"), OK)]
-IN_U = [*IN_T, (1, ("write", ("t", 2, "b")), OK)]
-RECORDS = [(2, ("transaction", [("write", ("u", key, "v")) for key in range(5)], 0), ("atomic", [OK] * 5))]
-IN_W = [(2, ("transaction", [("write", ("w", key, "v")) for key in range(3)], 0), ("atomic", [OK] * 3))]
-IN_RECORDS = [*RECORDS, (1, "begin", ("tid", 2)), (1, write(1, "a"), OK)]
-ALL = [("u", key, "v") for key in range(5)]
 # Of so many terms, none of which is long, that its frame grows again and again.
 LONG = ("u", 6, list(range(1_000, 31_000)))
-IN_LONG = [(2, ("transaction", [("write", LONG)], 0), ("atomic", [OK])), (1, "begin", ("tid", 2)), (1, write(1, "a"), OK)]
-INNER = ("transaction", [("write", ("u", 1, "b")), ("abort", "why")])
-DEEP = ("transaction", [("write", ("u", 1, "a")), ("transaction", [("transaction", [("write", ("u", 2, "b"))])]), ("read", "u", 1)], 2)
-DEEP_TOLD = ("atomic", [OK, ("atomic", [("atomic", [OK])]), [("u", 1, "a")]])
-HELD = [(2, "begin", ("tid", 1)), (2, ("wread", ("w", 1)), [])]
-# The journal of 16 entries is full.
-FULL = [(2, ("transaction", [("write", ("w", number, 0))], 0), ("atomic", [OK])) for number in range(16)]
-IN_FULL = [(1, "begin", ("tid", 17)), (1, write(1, "a"), OK)]
-WAITS = [(1, "begin", ("tid", 1)), (1, write(1, "a"), OK), (2, "begin", ("tid", 2)), (2, ("read", "u", 1), [])]
-
+IN_LONG = [(2, ("transaction", [("write", LONG)], 0), ("atomic", [OK])), *OF_FILE.steps["in t after a commit"]]
 CASES: List[Union[Case, Watched, Joins]] = [
-    Case("a begin", [], "begin", TID),
-    Case("a child's begin", IN_T, "begin", TID, True),
-    Case("a write", IN_U, ("write", ("u", 1, "a")), OK, True),
-    Case("a first write", [(1, "begin", TID)], ("write", ("u", b"k" * 40, [1, ("x", 2**100)])), OK, True),
-    Case("a read", IN_RECORDS, ("read", "u", 1), ALL[1:2], True),
-    Case("a read for a write", IN_RECORDS, ("wread", ("u", 1)), ALL[1:2], True),
-    Case("a delete", IN_RECORDS, ("delete", ("u", 1)), OK, True),
-    Case("a delete of a record", IN_RECORDS, ("delete_object", ("u", 1, "v")), OK, True),
-    Case("all keys", IN_RECORDS, ("all_keys", "u"), list(range(5)), True),
-    Case("a match", IN_RECORDS, ("match_object", ("u", "_", "v")), ALL, True),
-    Case("a long read", IN_LONG, ("read", "u", 6), [LONG], True),
-    Case("a table's lock", IN_U, ("write_lock_table", "u"), OK, True),
-    Case("a read of no table", [(1, "begin", TID), (1, "begin", TID)], ("read", "nosuch", 1), ("aborted", ("no_exists", "nosuch")), True),
-    Case("a write that waits", WAITS, ("write", ("u", 1, "a")), OK, True, True),
-    Case("a commit", IN_T, "commit", ("atomic", 1), True),
-    Case("a commit that folds", [*FULL, *IN_FULL], "commit", ("atomic", 17), True, words=["--journal", "16"]),
-    Case("a child's commit", [*IN_T, (1, "begin", TID), (1, write(1, "b"), OK)], "commit", ATOMIC, True),
-    Case("an abort", IN_T, ("abort", ("why", [1, b"x"])), ("aborted", ("why", [1, b"x"])), True),
-    Case("a new table", [], ("create_table", "v", [("attributes", ["k", "v", "w"]), ("index", ["w"])]), ATOMIC),
-    Case("an index", IN_W, ("add_table_index", "w", "val"), ATOMIC),
-    Case("an old table", IN_W, ("delete_table", "w"), ATOMIC),
-    Case("a table's attributes", RECORDS, ("table_info", "u", "attributes"), ["key", "val"]),
-    Case("a subscription with a dump", RECORDS, ("subscribe", ("table", "u", "detailed"), "dump"), HERE_OK, marks=True),
-    Case("the end of one", [(1, watch(), HERE_OK)], ("unsubscribe", ("table", "t", "simple")), HERE_OK, marks=True),
-    Case("a one-shot", [], ("transaction", [("write", ("u", 1, "a")), ("read", "u", 1)], 2), ("atomic", [OK, [("u", 1, "a")]])),
-    Case("a one-shot of three levels", [], DEEP, DEEP_TOLD),
-    Case("a one-shot whose child aborts", [], ("transaction", [write(1, "a"), INNER], 2), ("atomic", [OK, ("aborted", "why")])),
-    Case("a one-shot that gives up", HELD, ("transaction", [write(1, "a"), INNER, ("read", "w", 1)], 0), ("aborted", "nomore")),
+    *(Case(name, OF_FILE.joined(before), request, reply, how, words) for name, how, words, before, request, reply in OF_FILE.rows),
+    Case("a first write", OF_FILE.steps["begun"], ("write", ("u", b"k" * 40, [1, ("x", 2**100)])), OK, ["inside"]),
+    Case("a long read", IN_LONG, ("read", "u", 6), [LONG], ["inside"]),
     Watched("a commit that is watched"),
     # The events are longer together than what is kept before it is sent.
     Watched("a long commit that is watched", value=b"v" * 15_000),
-    Watched("a commit that is watched and folds", FULL, ["--journal", "16"]),
+    Watched("a commit that is watched and folds", OF_FILE.steps["a full journal"], ["--journal", "16"]),
     Joins("a connection"),
     Joins("a connection of a server without an end", ["--forever"]),
 ]
 
 
 @pytest.fixture(scope="session")
-def refused(tabd: str, tmp_path_factory: pytest.TempPathFactory) -> Any:
+def refused(tabd: str, library: Callable[[str], str]) -> Any:
     """Starts a server with some options whose allocations can be refused."""
-    library = built("refusing_server", tmp_path_factory.mktemp("refusing"))
-    serve = partial(RefusedServer, tabd, library)
+    serve = partial(RefusedServer, tabd, library("refusing_server"))
     with serve("--connections", "1") as server:
         server.refuse(COUNTED)
         server.connect().ask("begin")

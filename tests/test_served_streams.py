@@ -10,10 +10,10 @@ from typing import Any, Callable
 
 import pytest
 
-from tests.lib.checks import waits
+from tests.lib.playing import played
 from tests.lib.servers import Server
 from tests.lib.streams import streams
-from tests.lib.wire import Connection, term_of
+from tests.lib.wire import term_of
 
 # With fewer streams than these one is skipped that was not skipped before.
 LEAST = 38
@@ -36,26 +36,6 @@ def steps_of(stream: Any) -> Any:
     return steps
 
 
-class Session:
-    """A connection, and whether an operation waits on it."""
-
-    def __init__(self, connection: Connection) -> None:
-        self.connection, self.waits = connection, False
-
-    def step(self, request: Any, reply: Any) -> None:
-        if request == "take":
-            if reply != "empty":
-                assert self.connection.event() == reply, "an item"
-            return
-        if request != "retry":
-            self.connection.send(request)
-        self.waits = reply == "waiting"
-        if self.waits:
-            waits(self.connection)
-        else:
-            assert self.connection.reply() == reply, request
-
-
 ASKED = [(stream.name, steps) for stream in streams() if (steps := steps_of(stream)) and any(step[1] == "join" for step in steps)]
 
 
@@ -70,6 +50,6 @@ def test_served(serve: Callable[..., Server], steps: Any) -> None:
     sessions = {}
     for session, request, reply in steps:
         if request == "join":
-            sessions[session] = Session(server.connect())
+            sessions[session] = server.connect()
         else:
-            sessions[session].step(request, reply)
+            assert played(sessions[session], request, reply) == reply, request

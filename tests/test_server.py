@@ -9,31 +9,17 @@ are closed.
 import random
 import resource
 import select
-import threading
 import time
 from typing import Any, Callable, List
 
 import pytest
 
 from tests.lib.checks import ATOMIC, CREATE, END, HERE_OK, MARK, OK, QUIET, UNWATCH, add, at_last, begun, change, committed, event, follow
-from tests.lib.checks import holds, one_shot, script, side_by_side, waits, watch, write
+from tests.lib.checks import gets, holds, one_shot, raised, script, side_by_side, watch, write
+from tests.lib.playing import play, scripted
+from tests.lib.sending import Sent, both_ways, items, reads, served
 from tests.lib.servers import Server
 from tests.lib.wire import Connection, Term, frame
-
-served = pytest.mark.served
-
-
-# How the events of a commit are sent, by its number.
-Sent = Callable[[int, List[Term]], List[Term]]
-apart: Sent = lambda number, events: events
-together: Sent = lambda number, events: [("batch", number, events)]
-
-
-def both_ways(first: str, second: str, *mark: Any, **more: Any) -> pytest.MarkDecorator:
-    """A case that is run with single events, and with `--batches`; their names, and the arguments of the mark `served`."""
-    apart_too = pytest.param(apart, id=first, marks=served(*mark, **more))
-    return pytest.mark.parametrize("sent", [apart_too, pytest.param(together, id=second, marks=served(*mark, "--batches", **more))])
-
 
 # A length over the longest payload's.
 TOO_LONG = (1_048_577).to_bytes(4, "big")
@@ -72,69 +58,16 @@ def unread(connection: Connection) -> None:
     connection.break_off()
 
 
-@served(3)
-def test_others_go_on(clients: List[Connection]) -> None:
-    """Sessions go on while another's transaction is open, and a watching session gets the events of their commits."""
-    first, second, third = clients
-    begun(first, second)
-    follow(third)
-    script((first, write(1, "a"), OK), (second, write(2, "b"), OK), (second, "commit", ("atomic", 1)))
-    assert third.event() == event(2, "b", 2), "event"
-    script(
-        (second, "begin", ("tid", 3)),
-        (second, ("read", "t", 2), [("t", 2, "b")]),
-        # The younger waits for no one: the key is the older's.
-        (second, ("read", "t", 1), "restart"),
-        (first, "commit", ("atomic", 2)),
-        (second, ("read", "t", 1), [("t", 1, "a")]),
-    )
-    assert third.event() == event(1, "a", 1), "event"
-    script((third, UNWATCH, HERE_OK))
-    assert third.event() == END, "end marker"
+test_others_go_on = served(3)(scripted("others go on"))
+test_a_session_leaves_a_queue = served(3)(scripted("a session leaves a queue"))
+test_batches = served(3, "--batches")(scripted("batches"))
 
 
 @served(2)
-@pytest.mark.parametrize(
-    "end, reply, found",
-    [
-        (("abort", "why"), ("aborted", "why"), 1),
-        ("commit", ("atomic", 2), 2),
-        ("leave", None, 1),
-        ("break", None, 1),
-    ],
-    ids=["by an abort", "by a commit", "by an end", "by a broken connection"],
-)
-def test_woken(clients: List[Connection], end: Any, reply: Any, found: Any) -> None:
+@pytest.mark.parametrize("end", ["by an abort", "by a commit", "by an end", "by a broken connection"])
+def test_woken(clients: List[Connection], end: str) -> None:
     """A session that waits gets the record as soon as the other's transaction ends, in each way."""
-    older, younger = clients
-    script((older, CREATE, ATOMIC))
-    change(older, write(1, 1))
-    script((older, "begin", ("tid", 2)), (younger, "begin", ("tid", 3)), (younger, write(1, 2), OK))
-    older.send(("read", "t", 1))
-    waits(older)
-    if end == "leave":
-        younger.close()
-    elif end == "break":
-        younger.break_off()
-    else:
-        script((younger, end, reply))
-    assert older.receive() == ("reply", [("t", 1, found)]), "the one that waits"
-    script((older, "commit", ("atomic", 3 if end == "commit" else 2)))
-
-
-@served(3)
-def test_a_session_leaves_a_queue(clients: List[Connection]) -> None:
-    """A queued request is dropped with its session: the request after it is woken."""
-    first, second, third = clients
-    begun(first, second, third)
-    script((third, ("read", "t", 1), []))
-    second.send(write(1, "b"))
-    waits(second)
-    first.send(("read", "t", 1))
-    waits(first)
-    second.break_off()
-    assert first.receive() == ("reply", []), "the request after it"
-    script((third, "commit", ("atomic", 1)), (first, "commit", ("atomic", 2)))
+    play(clients, f"woken {end}")
 
 
 @pytest.mark.parametrize(
@@ -146,21 +79,8 @@ def test_a_session_leaves_a_queue(clients: List[Connection]) -> None:
 )
 def test_raise(clients: List[Connection], count: int) -> None:
     """A hot record is raised on each connection; each raise counts once, and has a number of its own."""
-    each = 100 // count
-    total = each * count
-    numbers: List[int] = []
-
-    def raise_all(connection: Connection) -> None:
-        for turn in range(each):
-            add(connection, (1, 1))
-            numbers.append(committed(connection))
-
-    first = clients[0]
-    script((first, CREATE, ATOMIC))
-    change(first, write(1, 0))
-    side_by_side([(raise_all, (one,)) for one in clients])
-    assert sorted(numbers) == list(range(2, total + 2)), "numbers"
-    script((first, one_shot(("read", "t", 1)), ("atomic", [[("t", 1, total)]])))
+    raises = raised(clients, 100 // count)
+    assert sorted(number for _, number in raises) == list(range(2, len(raises) + 2)), "numbers"
 
 
 def copy_of(log: Any) -> Any:
@@ -177,7 +97,7 @@ def test_two_mirrors(clients: List[Connection]) -> None:
     """Two write and delete; each mirror gets the same events, and ends with the table's records."""
     one, other, *mirrors = clients
     each = 60
-    logs: List[Any] = []
+    logs: List[Any] = [[] for _ in mirrors]
 
     def change_all(connection: Connection, seed: int) -> None:
         chance = random.Random(seed)
@@ -186,25 +106,20 @@ def test_two_mirrors(clients: List[Connection]) -> None:
             what = ("delete", ("t", key)) if turn % 5 == 0 else write(key, chance.randrange(1000))
             assert connection.ask(one_shot(what, retries=1000))[0] == "atomic", "commit"
 
-    def read_all(mirror: Any, log: Any) -> None:
-        while not log or log[-1][1][:2] != ("write", ("t", "last", 0)):
-            log.append(mirror.event())
+    def read_all(mirror: Connection, log: Any) -> None:
+        log += [mirror.event() for _ in range(2 * each)]
 
     script((one, CREATE, ATOMIC))
     change(one, write(2, 2))
     for mirror in mirrors:
         script((mirror, watch("dump"), HERE_OK))
         assert mirror.event() == ("mnesia_table_begin", "t", "simple", [("t", 2, 2)]), "begin marker"
-        logs.append([])
-    reading = [threading.Thread(target=read_all, args=given, daemon=True) for given in zip(mirrors, logs)]
-    for thread in reading:
-        thread.start()
-    side_by_side([(change_all, (one, 1)), (change_all, (other, 2))])
+    side_by_side([(change_all, (one, 1)), (change_all, (other, 2)), *((read_all, given) for given in zip(mirrors, logs))])
+    assert logs[0] == logs[1], "logs"
     change(one, write("last", 0))
-    for thread in reading:
-        thread.join(10)
-    assert [len(log) for log in logs] == [2 * each + 1] * len(logs), "events"
-    assert all(log == logs[0] for log in logs), "logs"
+    for mirror, log in zip(mirrors, logs):
+        log.append(mirror.event())
+        assert log[-1][1][:2] == ("write", ("t", "last", 0)), "no more"
     one.ask("begin")
     assert {key: one.ask(("read", "t", key)) for key in copy_of(logs[0])} == copy_of(logs[0]), "the copies"
     assert set(one.ask(("all_keys", "t"))) <= set(copy_of(logs[0])), "no other records"
@@ -215,8 +130,7 @@ def test_a_slow_reader(clients: List[Connection], sent: Sent) -> None:
     """A client that reads nothing gets an overflow after the events that were sent; the other gets each commit, and no one waits."""
     idle, writer, reader = clients
     value, count = b"v" * 4000, 200
-    # A commit writes the key of its number, which is its age too.
-    wanted = [None, *(sent(number, [event(number, value, number)])[0] for number in range(1, count + 1))]
+    wanted = [None, *items([value] * count, sent)]
     script((writer, CREATE, ATOMIC), (idle, watch(), HERE_OK))
     follow(reader)
     for number in range(1, count + 1):
@@ -246,8 +160,7 @@ def test_an_outbox_of_one_item(clients: List[Connection]) -> None:
         numbers = range(first, first + 40)
         follow(watcher)
         writer.send(*(one_shot(write(number, 0)) for number in numbers))
-        for _ in numbers:
-            assert writer.receive() == ("reply", ("atomic", [OK])), "a commit"
+        gets(writer, *[("atomic", [OK]) for _ in numbers])
         for number in numbers:
             told = watcher.event()
             if told == ("mnesia_overflow", number):
@@ -297,10 +210,7 @@ def test_during_long_replies(clients: List[Connection]) -> None:
         time.sleep(QUIET)
         for key in range(first, first + each):
             change(writer, write(key, 0))
-        # On a busy machine events may come before it.
-        while (term := reader.receive())[0] != "reply":
-            reader.events.append(term)
-        holds("the reply is whole", term == ("reply", rows))
+        holds("the reply is whole", reader.reply() == rows)
         for key in range(first, first + each):
             assert reader.event() == event(key, 0, len(rows) + 2 + key), "event"
     script((reader, "commit", ("atomic", len(rows) + 5 * each + 1)))
@@ -320,37 +230,14 @@ def test_long_items(clients: List[Connection], sent: Sent) -> None:
         change(writer, ("write", row))
     mirror.send(("subscribe", detailed, "dump"))
     assert bool(select.select([mirror.socket], [], [], 10)[0]), "something is sent"
-    items: List[Any] = [("mnesia_table_begin", "t", "detailed", rows)]
+    wanted: List[Any] = [("mnesia_table_begin", "t", "detailed", rows)]
     for number, keys in enumerate(([16], [17], [0, 1, 2], [18], [3], [4, 19], [20]), len(rows) + 1):
         change(writer, *(write(key, 0) for key in keys))
-        items += changed(number, [(key, rows[key : key + 1]) for key in keys])
+        wanted += changed(number, [(key, rows[key : key + 1]) for key in keys])
     mirror.send(("unsubscribe", detailed))
-    items.append(END)
-    replies: List[Any] = []
-    while len(replies) < 2:
-        term = mirror.receive()
-        (replies if term[0] == "reply" else mirror.events).append(term)
-    assert replies == [("reply", HERE_OK)] * 2, "replies"
-    for line, item in enumerate(items):
-        holds(f"item {line}", mirror.event() == item)
-
-
-@served(3, "--batches")
-def test_batches(clients: List[Connection]) -> None:
-    """A commit's events come in one frame, with its number, if it changed a table that the session watches; markers are the same."""
-    one, other, mirror = clients
-    script((one, CREATE, ATOMIC), (one, ("create_table", "u", []), ATOMIC), (mirror, watch("dump"), HERE_OK), (other, watch(), HERE_OK))
-    change(one, write(1, "a"), ("delete", ("t", 1)), ("write", ("u", 1, 1)), write(2, "b"))
-    change(one, ("write", ("u", 2, 2)))
-    change(one, write(3, "c"))
-    script((mirror, UNWATCH, HERE_OK), (one, ("delete_table", "t"), ATOMIC))
-    deletion = ("mnesia_table_event", ("delete", ("t", 1), ("tid", 1)))
-    commits = together(1, [event(1, "a", 1), deletion, event(2, "b", 1)]) + together(3, [event(3, "c", 3)])
-    ends: List[Any] = [(mirror, ([],), "unsubscribed"), (other, (), "deleted")]
-    for connection, mark, end in ends:
-        assert connection.event() == ("mnesia_table_begin", "t", "simple", *mark), "begin marker"
-        assert [connection.event(), connection.event()] == commits, "commits"
-        assert connection.event() == ("mnesia_table_end", "t", end), "end marker"
+    wanted.append(END)
+    assert [mirror.reply(), mirror.reply()] == [HERE_OK] * 2, "replies"
+    reads(mirror, wanted)
 
 
 @served(5, "--batches", "--outbox", "1024")

@@ -79,10 +79,11 @@ def change(client: Connection, *changes: Term) -> None:
     script((client, one_shot(*changes), ("atomic", [OK] * len(changes))))
 
 
-def follow(mirror: Connection) -> None:
-    """Subscribes to the table, and gets its begin marker."""
-    script((mirror, watch(), HERE_OK))
-    assert mirror.event() == MARK, "begin marker"
+def follow(*mirrors: Connection) -> None:
+    """Each subscribes to the table, and gets its begin marker."""
+    script(*((mirror, watch(), HERE_OK) for mirror in mirrors))
+    for mirror in mirrors:
+        assert mirror.event() == MARK, "begin marker"
 
 
 def gets(connection: Connection, *replies: Term) -> None:
@@ -136,6 +137,23 @@ def add(connection: Connection, *amounts: Tuple[Term, int]) -> int:
     while not all(added(connection, key, amount) for key, amount in amounts):
         restarts += 1
     return restarts
+
+
+def raised(clients: List[Connection], each: int) -> List[Tuple[int, int]]:
+    """In a new server each raises record 1 so often; of each raise how often it was restarted, and the number of its commit."""
+    __tracebackhide__ = True
+    raises: List[Tuple[int, int]] = []
+
+    def raise_all(connection: Connection) -> None:
+        for _ in range(each):
+            restarts = add(connection, (1, 1))
+            raises.append((restarts, committed(connection)))
+
+    script((clients[0], CREATE, ATOMIC))
+    change(clients[0], write(1, 0))
+    side_by_side([(raise_all, (one,)) for one in clients])
+    script((clients[0], one_shot(("read", "t", 1)), ("atomic", [[("t", 1, each * len(clients))]])))
+    return raises
 
 
 def waits(connection: Connection) -> None:

@@ -10,6 +10,13 @@ from tests.lib.wire import Connection, Term, frame, take
 
 # The record of a key, or of a number.
 Record = Callable[[int], Term]
+small_record: Record = lambda key: ("t", key, key)
+halved: Record = lambda key: ("t", key, key % 2)
+long_record: Callable[[int], Record] = lambda size: lambda key: ("t", key, bytes([key % 256]) * size)
+# All are of one key, and as long as each other.
+bag_record: Record = lambda number: ("t", 0, 1_000 + number)
+# One of ten of its key.
+of_ten: Record = lambda number: ("t", number // 10, number)
 
 # The entries of the journal by default.
 JOURNAL = 1_024
@@ -62,18 +69,6 @@ def fill(client: Connection, record: Record, count: int, each: int) -> None:
         keys = range(first, min(first + each, count))
         size = size_of(("atomic", [OK] * len(keys)))
         ask_long(client, ("transaction", [("write", record(key)) for key in keys], 0), size)
-
-
-def small_record(key: int) -> Term:
-    return ("t", key, key)
-
-
-def halved(key: int) -> Term:
-    return ("t", key, key % 2)
-
-
-def long_record(size: int) -> Record:
-    return lambda key: ("t", key, bytes([key % 256]) * size)
 
 
 def table(record: Record, count: int, each: int = 10, options: Sequence[Term] = ()) -> Callable[[Connection], None]:
@@ -178,11 +173,6 @@ def answers(count: int, answer: Term, server: Server, client: Connection) -> int
     return server.kilobytes("VmHWM")
 
 
-def bag_record(number: int) -> Term:
-    """All are of one key, and as long as each other."""
-    return ("t", 0, 1_000 + number)
-
-
 def bag_writes(records: int, count: int, server: Server, client: Connection) -> int:
     """The peak of so many writes of a one-shot to a key of so many records; a session that reads nothing watches the table."""
     written = [bag_record(records + number) for number in range(count)]
@@ -195,11 +185,6 @@ def bag_writes(records: int, count: int, server: Server, client: Connection) -> 
         assert (tag, name, what) == ("write", "t", record), "a write"
         holds("the records before it", old == [bag_record(number) for number in range(records + place)])
     return held
-
-
-def of_ten(number: int) -> Term:
-    """One of ten of its key."""
-    return ("t", number // 10, number)
 
 
 def rows(record: Record, count: int, server: Server, client: Connection) -> int:

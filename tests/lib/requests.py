@@ -91,34 +91,13 @@ class Reader:
 
 
 Check = Callable[[Term], bool]
-
-
-def is_atom(term: Term) -> bool:
-    return isinstance(term, str)
-
-
-def is_any(_: Term) -> bool:
-    return True
-
-
-def is_attribute(term: Term) -> bool:
-    return isinstance(term, (str, int))
-
-
-def is_list(term: Term) -> bool:
-    return isinstance(term, list) and not isinstance(term, Map)
-
-
-def is_key(term: Term) -> bool:
-    return isinstance(term, tuple) and len(term) == 2 and is_atom(term[0])
-
-
-def is_record(term: Term) -> bool:
-    return isinstance(term, tuple) and len(term) >= 2 and is_atom(term[0])
-
-
-def is_watched(term: Term) -> bool:
-    return isinstance(term, tuple) and len(term) == 3 and term[0] == "table" and is_atom(term[1]) and term[2] in LEVELS
+is_any: Check = lambda term: True
+is_atom: Check = lambda term: isinstance(term, str)
+is_attribute: Check = lambda term: isinstance(term, (str, int))
+is_list: Check = lambda term: isinstance(term, list) and not isinstance(term, Map)
+is_key: Check = lambda term: isinstance(term, tuple) and len(term) == 2 and is_atom(term[0])
+is_record: Check = lambda term: isinstance(term, tuple) and len(term) >= 2 and is_atom(term[0])
+is_watched: Check = lambda term: isinstance(term, tuple) and len(term) == 3 and term[0] == "table" and is_atom(term[1]) and term[2] in LEVELS
 
 
 def are_members(term: Term) -> bool:

@@ -106,7 +106,7 @@ class Server:
 
     def proc(self, name: str) -> str:
         """What the system says of its process."""
-        return pathlib.Path(f"/proc/{self.process.pid}/{name}").read_text(encoding="ascii")
+        return pathlib.Path(f"/proc/{self.process.pid}/{name}").read_text(encoding="utf-8")
 
     def status(self) -> Dict[str, str]:
         lines = self.proc("status").splitlines()
@@ -124,11 +124,7 @@ class Server:
 
     def settled(self, wanted: Tuple[int, int]) -> Tuple[int, int, int]:
         """What it holds, once its threads and descriptors are as many as wanted."""
-
-        def is_wanted(found: Tuple[int, int, int]) -> bool:
-            return found[:2] == wanted
-
-        return soon(self.held, is_wanted)
+        return soon(self.held, lambda found: found[:2] == wanted)
 
     def accepts(self) -> None:
         """Once its first thread waits for a connection."""

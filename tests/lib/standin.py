@@ -481,11 +481,5 @@ class MakesCallsInTurn(Wrong):
 
 IN_TURN = [ServesOneAfterAnother, MakesCallsInTurn]
 
-WRONG = [
-    DropsAnEvent, DoublesAnEvent, SwapsEvents, DropsASubscribersEvent, DoublesASubscribersEvent, SwapsASubscribersEvents,
-    TellsABatchBeforeItsMark, TellsAnEventAfterTheEnd, DropsWhatIsQueuedAtAnEnd, MergesWrites, TellsOldRecordsOfBeforeTheCommit,
-    GivesANewAgeAfterARestart, LosesAReadLock, LooksAtATableWithoutALock, ReadsForAWriteByAReadLock, LosesATableLock,
-    KeepsNoLockOfWhatFailed, LosesAWrite, TellsAnOldRead, TellsAReaderAnOldRead, CommitsWhatIsGone, CommitsWhatIsAborted,
-    KeepsAChildThatIsAborted, RestartsForNothing, TellsAnotherOverflow, OverflowsWithRoomLeft, SplitsAOneShot,
-    ForgetsARecordOfADump, GivesANumberTwice, OneAfterAnother,
-]  # fmt: skip
+# All of this module, in their order.
+WRONG = [it for it in list(globals().values()) if isinstance(it, type) and issubclass(it, Wrong) and it not in (Wrong, *IN_TURN)]

@@ -4,18 +4,13 @@ Each has one reply frame for each request frame, in their order, so the replies 
 with those of the model of sessions.py.
 """
 
-import pathlib
-import re
 from typing import Iterable, Iterator, List, Tuple
 
 from tests.lib.checks import ATOMIC, OK
-from tests.lib.notation import terms_of
-from tests.lib.wire import Term, frames, frames_of
+from tests.lib.notation import Step, columns_of, parts_of, rows_of
+from tests.lib.wire import frames, frames_of
 
 DAMAGED, DEVICE = b"tabd: damaged input\n", b"tabd: device\n"
-HERE = pathlib.Path(__file__).parent
-# A session, its request and the reply.
-Step = Tuple[int, Term, Term]
 # As many sessions and tables as there may be, and one more.
 LIMITS: List[Step] = [
     *[(session, "join", OK) for session in range(1, 65)],
@@ -62,9 +57,8 @@ def bytes_of(text: str) -> bytes:
 
 def scripts() -> Iterator[Tuple[str, int, List[Step]]]:
     """The name of each, the capacity of the outboxes, and the steps."""
-    for text in re.sub(" *%.*\n", "", (HERE / "scripts.txt").read_text(encoding="utf-8")).strip().split("\n\n"):
-        name, outbox, *terms = terms_of(text)
-        yield name, outbox, list(zip(terms[::3], terms[1::3], terms[2::3]))
+    for name, outbox, *terms in parts_of("scripts.txt"):
+        yield name, outbox, rows_of(terms)
     yield "sessions and tables", 64, LIMITS
 
 
@@ -75,8 +69,7 @@ def of_steps(steps: Iterable[Step]) -> Tuple[bytes, bytes]:
 
 
 def streams() -> Iterator[Stream]:
-    lines = (HERE / "streams.tsv").read_text(encoding="utf-8").splitlines()
-    for name, outbox, ended, given, told in (line.split("\t") for line in lines if line and not line.startswith("#")):
+    for name, outbox, ended, given, told in columns_of("streams.tsv"):
         yield Stream(name, int(outbox), bytes_of(given), bytes_of(told), ended)
     for script, capacity, steps in scripts():
         yield Stream(script, capacity, *of_steps(steps))
