@@ -127,7 +127,7 @@ class Server:
         return soon(self.held, lambda found: found[:2] == wanted)
 
     def accepts_no_more(self) -> None:
-        """It has handles for no more connections: the next is closed with no frame, once its first thread waits for it, with its handle."""
+        """It may open no more handles: the next connection is closed with no frame. The accept that waits has its handle already."""
         found = soon(lambda: self.proc("syscall").split()[0], lambda call: call == ACCEPT4)
         assert found == ACCEPT4, "it accepts no connection"
         resource.prlimit(self.process.pid, resource.RLIMIT_NOFILE, (3, 3))
