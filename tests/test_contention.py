@@ -235,7 +235,7 @@ def test_sixteen_raise(clients: List[Connection]) -> None:
 def test_mixed_load(clients: List[Connection]) -> None:
     """Transactions and one-shots over three records, in opposite orders, some of which abort, for a while: no one-shot is
     given up, the sum is right, and each session makes progress."""
-    end, raised, longest = time.monotonic() + SECONDS, [], [0.0]
+    end, raised, took = time.monotonic() + SECONDS, [], []
 
     def raise_one(connection: Connection, chance: random.Random) -> None:
         add(connection, (0, 1))
@@ -244,17 +244,16 @@ def test_mixed_load(clients: List[Connection]) -> None:
         else:
             raised.append(committed(connection))
 
-    def write_both(connection: Connection, keys: Any, value: Any) -> None:
-        script((connection, one_shot(*(write(key, value) for key in keys), retries=1000), ("atomic", [OK, OK])))
+    def write_both(connection: Connection, chance: random.Random) -> None:
+        value = chance.randrange(1000)
+        writes = [write(key, value) for key in chance.sample([1, 2], 2)]
+        script((connection, one_shot(*writes, retries=1000), ("atomic", [OK, OK])))
 
     def load(connection: Connection, seed: int) -> None:
-        chance, keys = random.Random(seed), (1, 2) if seed % 2 else (2, 1)
+        chance = random.Random(seed)
         while time.monotonic() < end:
-            if chance.random() < 0.5:
-                seconds = timed(raise_one, connection, chance)[1]
-            else:
-                seconds = timed(write_both, connection, keys, chance.randrange(1000))[1]
-            longest[0] = max(longest[0], seconds)
+            call = chance.choice([raise_one, write_both])
+            took.append(timed(call, connection, chance)[1])
 
     first = clients[0]
     script((first, CREATE, ATOMIC))
@@ -263,7 +262,7 @@ def test_mixed_load(clients: List[Connection]) -> None:
     told = first.ask(one_shot(("read", "t", 0), ("read", "t", 1), ("read", "t", 2)))[1]
     assert told[0][0][2] == len(raised) > 0, "sum"
     assert told[1][0][2] == told[2][0][2], "both"
-    between("the longest", 0, longest[0], LATE)
+    between("the longest", 0, max(took), LATE)
 
 
 @pytest.fixture(scope="module")

@@ -12,7 +12,7 @@ from typing import Any, Iterator, List, Tuple
 
 import pytest
 
-from tests.lib.checks import ATOMIC, CREATE, HERE_OK, MARK, OK, event, watch, write
+from tests.lib.checks import ATOMIC, CREATE, HERE_OK, MARK, OK, event, holds, watch, write
 from tests.lib.notation import Step, columns_of
 from tests.lib.streams import DAMAGED, DEVICE, of_steps
 from tests.lib.wire import Term, frame, frames
@@ -108,7 +108,8 @@ def odd_payloads() -> Tuple[Any, ...]:
 
 
 def run(program: str, words: Any, **streams: Any) -> Tuple[Any, ...]:
-    done = subprocess.run([program, *words], stderr=subprocess.PIPE, timeout=100, check=False, **streams)
+    streams = {"stdout": subprocess.PIPE, "stderr": subprocess.PIPE, **streams}
+    done = subprocess.run([program, *words], timeout=100, check=False, **streams)
     return done.returncode, done.stdout, done.stderr
 
 
@@ -136,7 +137,7 @@ def unescaped(text: str) -> bytes:
 
 @pytest.mark.parametrize("words, out, err, status", COMMAND_LINES, ids=[words or "none" for words, *_ in COMMAND_LINES])
 def test_arguments(tabd: str, words: str, out: str, err: str, status: str) -> None:
-    found = run(tabd, [unescaped(word) for word in words.split(" ")] if words else [], stdin=subprocess.DEVNULL, stdout=subprocess.PIPE)
+    found = run(tabd, [unescaped(word) for word in words.split(" ")] if words else [], stdin=subprocess.DEVNULL)
     assert found[0] == int(status) and is_told(unescaped(out), found[1]) and is_told(unescaped(err), found[2]), found
 
 
@@ -158,10 +159,9 @@ STREAMS = [
 @pytest.mark.parametrize("stream, status, err", STREAMS)
 def test_stream(tabd: str, stream: Any, status: int, err: Any) -> None:
     given, told = stream()
-    found = run(tabd, ["replay"], input=given, stdout=subprocess.PIPE)
-    assert (found[0], found[2]) == (status, err)
-    is_same = found[1] == told
-    assert is_same, f"{len(found[1])} bytes, wanted {len(told)}"
+    found, out, errors = run(tabd, ["replay"], input=given)
+    assert (found, errors) == (status, err)
+    holds(f"{len(out)} bytes, wanted {len(told)}", out == told)
 
 
 @pytest.mark.parametrize("stream, size", [(announced, LITTLE), (longest_map, FOR_A_MAP)], ids=["counts", "a map"])
@@ -169,7 +169,7 @@ def test_in_little_memory(tabd: str, plain: None, stream: Any, size: int) -> Non
     """Counts reserve no more than the bytes that came, and a map little more than its pairs."""
     given, told = stream()
     limit = lambda: resource.setrlimit(resource.RLIMIT_AS, (size, size))
-    assert run(tabd, ["replay"], input=given, stdout=subprocess.PIPE, preexec_fn=limit) == (0, told, b"")
+    assert run(tabd, ["replay"], input=given, preexec_fn=limit) == (0, told, b"")
 
 
 @pytest.fixture
@@ -182,21 +182,20 @@ def full() -> Iterator[Any]:
 @pytest.mark.parametrize("words, reason", [(["replay"], b""), (SERVE, b"tabd: standard output can't be written\n")], ids=["replay", "serve"])
 def test_a_full_output(tabd: str, full: Any, words: List[str], reason: bytes) -> None:
     """A server can't say where it listens."""
-    status, _, err = run(tabd, words, input=ASKED, stdout=full)
-    assert (status, err) == (1, DEVICE + reason)
+    assert run(tabd, words, input=ASKED, stdout=full) == (1, None, DEVICE + reason)
 
 
 def test_an_output_that_no_one_reads(tabd: str) -> None:
     end, start = os.pipe()
     os.close(end)
-    status, _, err = run(tabd, ["replay"], input=ASKED, stdout=start)
+    found = run(tabd, ["replay"], input=ASKED, stdout=start)
     os.close(start)
-    assert (status, err) == (1, DEVICE)
+    assert found == (1, None, DEVICE)
 
 
 def test_a_folder_as_input(tabd: str) -> None:
     folder = os.open("/", os.O_RDONLY)
-    found = run(tabd, ["replay"], stdin=folder, stdout=subprocess.PIPE)
+    found = run(tabd, ["replay"], stdin=folder)
     os.close(folder)
     assert found == (1, b"", DEVICE)
 
@@ -204,20 +203,17 @@ def test_a_folder_as_input(tabd: str) -> None:
 @pytest.mark.parametrize("file, wanted", [(0, (1, b"", DEVICE)), (1, (1, b"", DEVICE)), (2, (3, frames((1, "ok")), b""))])
 def test_a_closed_stream(tabd: str, file: int, wanted: Any) -> None:
     """A standard stream is closed; errors can't be written, which changes no status."""
-    found = run(tabd, ["replay"], input=ASKED + b"\0" * (file == 2), stdout=subprocess.PIPE, preexec_fn=lambda: os.close(file))
-    assert found == wanted
+    assert run(tabd, ["replay"], input=ASKED + b"\0" * (file == 2), preexec_fn=lambda: os.close(file)) == wanted
 
 
 @pytest.mark.parametrize("file, reason", [(0, CLOSED), (1, CLOSED), (2, b"")])
 def test_a_server_with_a_closed_stream(tabd: str, file: int, reason: bytes) -> None:
     """Its number is one that a client's socket would get."""
-    found = run(tabd, SERVE, stdin=subprocess.DEVNULL, stdout=subprocess.PIPE, preexec_fn=lambda: os.close(file))
-    assert found == (1, b"", reason)
+    assert run(tabd, SERVE, stdin=subprocess.DEVNULL, preexec_fn=lambda: os.close(file)) == (1, b"", reason)
 
 
 def test_errors_that_are_full(tabd: str, full: Any) -> None:
-    done = subprocess.run([tabd, "replay"], input=ASKED + b"\0", stdout=subprocess.PIPE, stderr=full, timeout=100, check=False)
-    assert (done.returncode, done.stdout) == (3, frames((1, "ok")))
+    assert run(tabd, ["replay"], input=ASKED + b"\0", stderr=full) == (3, frames((1, "ok")), None)
 
 
 @pytest.mark.parametrize("more", [[], ["--log"]], ids=["", "--log"])
@@ -225,4 +221,4 @@ def test_a_port_that_is_taken(tabd: str, more: List[str]) -> None:
     with socket.create_server(("127.0.0.1", 0)) as taken:
         words = ["serve", "--port", str(taken.getsockname()[1]), "--connections", "1", *more]
         wanted = (1, b"", DEVICE + b"tabd: Address already in use (os error 98)\n")
-        assert run(tabd, words, stdin=subprocess.DEVNULL, stdout=subprocess.PIPE) == wanted
+        assert run(tabd, words, stdin=subprocess.DEVNULL) == wanted

@@ -12,7 +12,7 @@ from typing import Callable, Iterator
 import pytest
 
 from tests.lib import holding
-from tests.lib.checks import ATOMIC, CREATE, END, HERE_OK, OK, holds, script, write
+from tests.lib.checks import ATOMIC, CREATE, END, HERE_OK, OK, change, committed, holds, one_shot, opened, script, write
 from tests.lib.holding import ALL_KEYS, ALL_RECORDS, DUMP, INDEXED, MEGABYTE, NO_MORE, Held, table
 from tests.lib.servers import Server
 from tests.lib.wire import Connection, Term
@@ -87,12 +87,12 @@ def test_the_last_lets_go(held: Held) -> None:
 def one_round(client: Connection, reader: Connection, mirror: Connection, record: Term, outbox_first: int) -> None:
     """A record is written, read, dumped, and sent as the old record of an event; then it is deleted."""
     read = ("read", "t", 1)
-    script((client, ("transaction", [("write", record)], 0), ("atomic", [OK])))
+    change(client, ("write", record))
     holding.transaction(reader, [read] * 10, holding.size_of([record]))
     holding.ask_long(reader, ("transaction", [read, ALL_RECORDS], 0), holding.size_of(("atomic", [[record]] * 2)))
     # The last subscription goes on.
     holding.queue(mirror, client, ([DUMP, NO_MORE] * QUEUED)[:-1])
-    script((client, ("transaction", [write(1, "short")], 0), ("atomic", [OK])))
+    change(client, write(1, "short"))
     if outbox_first:
         empty_outbox(mirror, record)
     holding.commit_nothing(client)
@@ -115,7 +115,7 @@ ROOM = 60_000_000
 def writes_until_refused(client: Connection) -> int:
     """Of a megabyte each, in the transaction that is open: how many are made."""
     for key in range(1, 1_000):
-        reply = client.ask(("write", ("t", key, bytes(MEGABYTE))))
+        reply = client.ask(write(key, bytes(MEGABYTE)))
         if reply != OK:
             assert reply == ("error", "no_memory"), f"write {key}"
             return key - 1
@@ -129,14 +129,12 @@ def test_no_more_memory(held: Held) -> None:
     script((client, CREATE, ATOMIC))
     resource.prlimit(held.process.pid, resource.RLIMIT_AS, (held.kilobytes("VmSize") * 1024 + ROOM, resource.RLIM_INFINITY))
     for number in range(3):
-        assert client.ask("begin")[0] == "tid", "begin"
+        opened(client)
         made = writes_until_refused(client)
         assert 20 < made, "writes"
-        script(
-            (client, ("abort", "r"), ("aborted", "r")),
-            (other, ("transaction", [write(0, number), ("all_keys", "t"), ("read", "t", 0)], 0), ("atomic", [OK, [0], [("t", 0, number)]])),
-        )
+        others = one_shot(write(0, number), ("all_keys", "t"), ("read", "t", 0))
+        script((client, ("abort", "r"), ("aborted", "r")), (other, others, ("atomic", [OK, [0], [("t", 0, number)]])))
     resource.prlimit(held.process.pid, resource.RLIMIT_AS, (resource.RLIM_INFINITY, resource.RLIM_INFINITY))
-    assert client.ask("begin")[0] == "tid", "begin"
-    script(*((client, ("write", ("t", key, bytes(MEGABYTE))), OK) for key in range(1, made + 20)))
-    assert client.ask("commit")[0] == "atomic", "commit"
+    opened(client)
+    script(*((client, write(key, bytes(MEGABYTE)), OK) for key in range(1, made + 20)))
+    committed(client)

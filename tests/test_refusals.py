@@ -10,10 +10,10 @@ With `--wrong` the program is each of a few wrong ones, which end by themselves 
 each stream; and one that leaves something after a one-shot of a stream.
 """
 
-import itertools
+import sys
 import time
 from functools import partial
-from typing import Any, Callable, List
+from typing import Any, Callable, Dict, List
 
 import pytest
 
@@ -79,11 +79,7 @@ class OneShotOfAStream:
 
     def measure(self, replay: Any) -> None:
         """How many allocations the one-shot makes, and what a probe in its place is answered, if nothing is refused."""
-        with replay(self.words, 0) as run:
-            same(run, self.given, self.told)
-            where, status, err = run.ended()
-        assert (status, err) == (0, b""), "nothing refused"
-        self.count = dict(zip(where[::2], where[1::2]))[self.place + 1]
+        self.count = counts(replay, self)[self.place + 1]
         if self.reply not in NOT_BEGUN:
             with replay(self.words, 0) as run:
                 same(run, self.given[: self.place], self.told)
@@ -160,14 +156,13 @@ def end_of(run: Any, case: Any, is_whole: Any) -> Any:
     return "frame"
 
 
-def count_before(replay: Any, stream: Any) -> Any:
-    """How many allocations are made before a frame is read."""
-    with replay(stream.words, 0) as run:
-        for given, wanted in zip(stream.given, stream.told):
-            assert run.ask(given) == wanted, f"frame {run.answered}, and nothing was refused"
+def counts(replay: Any, case: Any) -> Dict[int, int]:
+    """How many allocations are made after each frame that is read, and before the first (0), if nothing is refused."""
+    with replay(case.words, 0) as run:
+        same(run, case.given, case.told)
         where, status, err = run.ended()
     assert (status, err) == (0, b""), "nothing refused"
-    return dict(zip(where[::2], where[1::2]))[0]
+    return dict(zip(where[::2], where[1::2]))
 
 
 def row_end(run: Any, stream: Any) -> Any:
@@ -178,8 +173,7 @@ def row_end(run: Any, stream: Any) -> Any:
 
 def one_shot_end(run: Any, case: Any) -> Any:
     """How the run of a one-shot ended, if memory was refused only to the one-shot."""
-    for given, wanted in zip(case.given[:-1], case.told):
-        assert run.ask(given) == wanted, f"before it frame {run.answered}"
+    same(run, case.given[:-1], case.told)
     told = run.ask(case.given[-1])
     if told is not None and is_no_memory(told, case.told[-1]):
         run.refused += 1
@@ -218,31 +212,27 @@ def in_stream_end(run: Any, case: Any, left: Any = ()) -> Any:
     return end_of(run, case, told is not None)
 
 
-def faults_in_stream(replay: Any, case: Any, left: Any = (), **wrong: Any) -> List[str]:
-    """The faults, for each allocation of the one-shot in turn."""
-    case.measure(replay)
-
-    def end(nth: int) -> Any:
-        with replay(case.words, nth, case.place + 1, **wrong) as run:
-            return in_stream_end(run, case, left)
-
-    return tried(range(1, case.count + 1), end)[1]
-
-
-def faults_of(replay: Any, does: Any, case: Any, start: int, **wrong: Any) -> List[str]:
-    """The faults, for each allocation in turn; with the start 0 only for those before a frame is read."""
+def faults_of(replay: Any, does: Any, case: Any, start: int, most: int = sys.maxsize, **wrong: Any) -> List[str]:
+    """The faults, for each allocation in turn, and at most for so many."""
 
     def end(nth: int) -> Any:
         with replay(case.words, nth, start, **wrong) as run:
             return does(run, case)
 
-    ends, faults = tried(itertools.count(1) if start else range(1, count_before(replay, case) + 1), end)
+    ends, faults = tried(range(1, most + 1), end)
     assert faults or ends.keys() & {"start", "frame", "asked again"}, "nothing was refused"
     return faults
 
 
+def faults_in_stream(replay: Any, case: Any, left: Any = (), **wrong: Any) -> List[str]:
+    """The faults, for each allocation of the one-shot in turn."""
+    case.measure(replay)
+    return faults_of(replay, partial(in_stream_end, left=left), case, case.place + 1, case.count, **wrong)
+
+
 def test_the_start(replay: Any) -> None:
-    assert not faults_of(replay, row_end, ROWS[0], 0)
+    """Each allocation before a frame is read."""
+    assert not faults_of(replay, row_end, ROWS[0], 0, counts(replay, ROWS[0])[0])
 
 
 def each(name: str, cases: List[Any]) -> pytest.MarkDecorator:

@@ -279,13 +279,11 @@ def test_a_start(refused: Any, words: List[str]) -> None:
     failed = 0
     for nth in itertools.count(1):
         try:
-            server = refused("--connections", "2", "--forever", *words, nth=nth)
+            with refused("--connections", "2", "--forever", *words, nth=nth) as server:
+                server.seated()[0].close()
+                if server.made() < nth:
+                    break
         except OSError as error:
             same(f"allocation {nth}", str(error), "the server does not start: tabd: no memory\n")
             failed += 1
-            continue
-        with server:
-            server.seated()[0].close()
-            if server.made() < nth:
-                break
     assert failed, "nothing was refused"

@@ -6,7 +6,6 @@ test_forever.py tests the replies over a socket file. Each case has a folder of 
 import contextlib
 import os
 import pathlib
-import resource
 import socket
 import stat
 import subprocess
@@ -16,7 +15,8 @@ from typing import Any, Callable, Iterator, Tuple
 
 import pytest
 
-from tests.lib.checks import ATOMIC, CREATE, OK, begun, event, follow, script, write
+from tests.lib.checks import ATOMIC, CREATE, script
+from tests.lib.playing import play
 from tests.lib.servers import Server
 from tests.lib.wire import Connection
 
@@ -75,11 +75,7 @@ def test_mode(place: Any, umask: int, wanted: Any) -> None:
 def test_requests_and_events(place: Place) -> None:
     """Requests and events, and the end of a server whose connections are closed: the file is gone."""
     with place.server() as server:
-        first, second = server.clients(2)
-        begun(first)
-        follow(second)
-        script((first, write(1, "a"), OK), (first, "commit", ("atomic", 1)))
-        assert second.event() == event(1, "a", 1), "event"
+        play(server.clients(2), "requests and events")
         server.ends()
         assert os.listdir(place.folder) == [], "the folder"
 
@@ -150,10 +146,7 @@ def test_no_accept(place: Place) -> None:
     """A server that ends since it can't accept removes its file too."""
     with place.server(connections=4) as server:
         script((server.connect(), CREATE, ATOMIC))
-        # The accept that waits has its handle already.
-        server.accepts()
-        resource.prlimit(server.process.pid, resource.RLIMIT_NOFILE, (3, 3))
-        assert server.connect().stream.read() == b"", "the next"
+        server.accepts_no_more()
         server.ends(1, DEVICE + "tabd: Too many open files (os error 24)\n")
         assert os.listdir(place.folder) == [], "the folder"
 

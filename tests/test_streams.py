@@ -3,6 +3,7 @@
 It is some twenty thousand runs. The known replies are also those of the model (sessions.py), which makes them from the requests.
 """
 
+import contextlib
 import itertools
 import os
 import resource
@@ -55,11 +56,9 @@ def pieces(program: str, stream: Stream, parts: Any, **streams: Any) -> Tuple[An
     os.close(end)
 
     def write() -> None:
-        try:
+        with contextlib.suppress(BrokenPipeError):
             for part in parts:
                 os.write(start, part)
-        except BrokenPipeError:
-            pass
         os.close(start)
 
     thread = threading.Thread(target=write)
@@ -82,33 +81,22 @@ def full(program: str, stream: Stream, parts: Any, room: int) -> Tuple[Any, ...]
         return status, file.read(), err
 
 
-def exactly(file: Any, size: int) -> Any:
-    out = b""
-    while len(out) < size and (more := os.read(file, size - len(out))):
-        out += more
-    return out
-
-
 def half(program: str, stream: Stream, count: int) -> Tuple[Any, ...]:
     """A program that was asked the first so many frames, one by one over a socket, and what it answered; both are open yet."""
     ours, its = socket.socketpair()
-    end, start = os.pipe()
-    child, told = started(program, stream, stdin=its, stdout=start), b""
-    os.close(start)
+    child, told = started(program, stream, stdin=its), b""
     for given, wanted in zip(stream.given[:count], stream.told):
         ours.sendall(given)
-        told += exactly(end, len(wanted))
-    return child, ours, its, end, told
+        told += child.stdout.read(len(wanted))
+    return child, ours, its, told
 
 
 def no_reader(program: str, stream: Stream, count: int) -> Tuple[Any, ...]:
     """The output is closed after so many replies: the next can't be written."""
-    child, ours, its, end, told = half(program, stream, count)
-    os.close(end)
-    try:
+    child, ours, its, told = half(program, stream, count)
+    child.stdout.close()
+    with contextlib.suppress(OSError):
         ours.sendall(stream.given[count])
-    except OSError:
-        pass
     ours.close()
     _, err = child.communicate(timeout=SECONDS)
     its.close()
@@ -120,12 +108,11 @@ def no_input(program: str, stream: Stream, count: int, more: Any) -> Tuple[Any, 
 
     A socket whose other end is closed while it has unread bytes is reset.
     """
-    child, ours, its, end, told = half(program, stream, count)
+    child, ours, its, told = half(program, stream, count)
     ours.sendall(stream.given[count][:more])
     its.sendall(b"x")
     ours.close()
-    told += exactly(end, 1)
-    os.close(end)
+    told += child.stdout.read()
     _, err = child.communicate(timeout=SECONDS)
     its.close()
     return child.returncode, told, err

@@ -1,8 +1,8 @@
 """Checks of many cases, with their requests and events. It imports only the standard library, since bench/ uses it too."""
 
 import socket
-import threading
 import time
+from concurrent.futures import ThreadPoolExecutor, as_completed
 from functools import partial
 from typing import Any, Callable, List, Tuple, TypeVar
 
@@ -177,19 +177,7 @@ def read_waits(older: Connection, younger: Connection, *before: Tuple[Term, Term
 
 
 def side_by_side(jobs: List[Tuple[Callable[..., Any], Tuple[Any, ...]]]) -> None:
-    """Each in a thread; the first that differs."""
-    failed: List[Exception] = []
-
-    def run(job: Callable[..., Any], given: Tuple[Any, ...]) -> None:
-        try:
-            job(*given)
-        except Exception as error:
-            failed.append(error)
-
-    threads = [threading.Thread(target=run, args=one) for one in jobs]
-    for thread in threads:
-        thread.start()
-    for thread in threads:
-        thread.join()
-    if failed:
-        raise failed[0]
+    """Each in a thread; the first failure is raised once all have ended."""
+    with ThreadPoolExecutor(len(jobs)) as pool:
+        for done in as_completed([pool.submit(job, *given) for job, given in jobs]):
+            done.result()

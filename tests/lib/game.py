@@ -194,10 +194,8 @@ class Writer:
         sent = now()
         self.connection.send(*moves)
         for at, move in enumerate(moves):
-            term = self.connection.receive()
-            if term[0] != "reply":
-                raise Differs(f"the reply to {move} was {term}")
-            self.note(move, term[1], sent, now()) if at else self.begun(term[1], sent, now())
+            reply = self.reply()
+            self.note(move, reply, sent, now()) if at else self.begun(reply, sent, now())
 
     def one_shot(self) -> None:
         parts, tag = self.chance.parts()
@@ -320,7 +318,7 @@ class Game:
         self.shots: List[OneShot] = []
         self.watchers: List[Watcher] = []
         self.failed: List[str] = []
-        self.vanishing, self.lock, self.over = VANISHING, threading.Lock(), threading.Event()
+        self.vanishing, self.over = threading.Semaphore(VANISHING), threading.Event()
         self.first = Connection(port)
         for tab, options in OPTIONS.items():
             if self.first.ask(("create_table", tab, options)) != ("atomic", "ok"):
@@ -338,9 +336,7 @@ class Game:
         self.end = now() + seconds
 
     def may_vanish(self) -> bool:
-        with self.lock:
-            self.vanishing -= 1
-            return self.vanishing >= 0
+        return self.vanishing.acquire(blocking=False)
 
     def side_by_side(self, clients: List[Any]) -> Any:
         def run(client: Any) -> None:

@@ -4,7 +4,7 @@ import pathlib
 from functools import partial
 from typing import Callable, List, Sequence, Tuple
 
-from tests.lib.checks import ATOMIC, HERE_OK, OK, holds, one_shot, script, soon, write
+from tests.lib.checks import ATOMIC, HERE_OK, OK, change, committed, holds, one_shot, opened, script, soon, write
 from tests.lib.servers import Server
 from tests.lib.wire import Connection, Term, frame, take
 
@@ -48,12 +48,13 @@ def ask_long(client: Connection, request: Term, size: int) -> None:
     assert len(found) == size, f"{str(request)[:80]}: {len(found)} bytes in place of {size}, {found[:80]!r}"
 
 
-def transaction(client: Connection, requests: List[Term], size: int) -> None:
-    """One that is committed, whose replies have so many bytes each."""
-    assert client.ask("begin")[0] == "tid", "begin"
+def transaction(client: Connection, requests: List[Term], size: int, changes: Sequence[Term] = ()) -> None:
+    """One that is committed: these changes, and requests whose replies have so many bytes each."""
+    opened(client)
+    script(*((client, one, OK) for one in changes))
     for request in requests:
         ask_long(client, request, size)
-    assert client.ask("commit")[0] == "atomic", "commit"
+    committed(client)
 
 
 def commit_nothing(client: Connection, count: int = JOURNAL) -> None:
@@ -66,9 +67,7 @@ def commit_nothing(client: Connection, count: int = JOURNAL) -> None:
 def fill(client: Connection, record: Record, count: int, each: int) -> None:
     """Writes the records of so many keys, so many in a one-shot."""
     for first in range(0, count, each):
-        keys = range(first, min(first + each, count))
-        size = size_of(("atomic", [OK] * len(keys)))
-        ask_long(client, ("transaction", [("write", record(key)) for key in keys], 0), size)
+        change(client, *(("write", record(key)) for key in range(first, min(first + each, count))))
 
 
 def table(record: Record, count: int, each: int = 10, options: Sequence[Term] = ()) -> Callable[[Connection], None]:
@@ -104,11 +103,7 @@ def whole_reads(asked: Tuple[Term, List[Term]], count: int, writes: bool, server
     for turn in range(count):
         # As long as the record that it replaces.
         key = 1_000 + turn * 7_919 % (len(answer) - 1_000)
-        assert client.ask("begin")[0] == "tid", "begin"
-        if writes:
-            script((client, write(key, key + 1), OK))
-        ask_long(client, request, size)
-        assert client.ask("commit")[0] == "atomic", "commit"
+        transaction(client, [request], size, [write(key, key + 1)] if writes else [])
     return server.kilobytes()
 
 
@@ -146,7 +141,7 @@ def watcher(server: Server) -> Connection:
 def old_records(record: Record, count: int, server: Server, client: Connection) -> int:
     """All of a table's records are deleted in a one-shot, and a session that reads nothing watches the table."""
     mirror = watcher(server)
-    script((client, ("transaction", [("delete", ("t", key)) for key in range(count)], 0), ("atomic", [OK] * count)))
+    change(client, *(("delete", ("t", key)) for key in range(count)))
     held = server.kilobytes()
     holds("old records", [mirror.event()[1][3] for _ in range(count)] == [[record(key)] for key in range(count)])
     return held
@@ -178,7 +173,7 @@ def bag_writes(records: int, count: int, server: Server, client: Connection) -> 
     written = [bag_record(records + number) for number in range(count)]
     mirror = watcher(server)
     begin_peak(server)
-    script((client, ("transaction", [("write", record) for record in written], 0), ("atomic", [OK] * count)))
+    change(client, *(("write", record) for record in written))
     held = server.kilobytes("VmHWM")
     for place, record in enumerate(written):
         tag, name, what, old, _ = mirror.event()[1]

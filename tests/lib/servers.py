@@ -126,10 +126,12 @@ class Server:
         """What it holds, once its threads and descriptors are as many as wanted."""
         return soon(self.held, lambda found: found[:2] == wanted)
 
-    def accepts(self) -> None:
-        """Once its first thread waits for a connection."""
+    def accepts_no_more(self) -> None:
+        """It may open no more handles: the next connection is closed with no frame. The accept that waits has its handle already."""
         found = soon(lambda: self.proc("syscall").split()[0], lambda call: call == ACCEPT4)
         assert found == ACCEPT4, "it accepts no connection"
+        resource.prlimit(self.process.pid, resource.RLIMIT_NOFILE, (3, 3))
+        assert self.connect().stream.read() == b"", "the next"
 
     def used(self) -> float:
         """The seconds of a processor that it has used."""

@@ -25,30 +25,34 @@ class Link:
     def __init__(self, wrong: Any, client: socket.socket, port: int) -> None:
         self.wrong, self.client, self.server = wrong, client, Connection(port, small=wrong.small).socket
         self.client.setsockopt(socket.IPPROTO_TCP, socket.TCP_NODELAY, 1)
-        # The pending requests, the open levels, the keys that the transaction may have changed, the frames that are kept
-        # back, and other notes of a wrong server.
+        # The pending requests, the open levels and their age, the keys that the transaction may have changed, the frames that are
+        # kept back, and other notes of a wrong server.
         self.pending: Deque[Term] = deque()
-        self.depth, self.touched, self.held = 0, set(), []  # type: int, Set[Any], List[Term]
+        self.depth, self.age, self.touched, self.held = 0, 0, set(), []  # type: int, int, Set[Any], List[Term]
         self.notes: Dict[Any, Any] = {}
         # Whether it watches all at level detailed, so that the order of the commits is read off it.
         self.records = False
 
-    def run(self) -> Any:
-        ends = {self.client: b"", self.server: b""}
+    def run(self) -> None:
+        with contextlib.suppress(OSError):
+            self.pass_on()
+        self.wrong.gone(self)
+        for one in (self.client, self.server):
+            with contextlib.suppress(OSError):
+                one.shutdown(socket.SHUT_RDWR)
+            one.close()
+
+    def pass_on(self) -> None:
+        """The frames of both, until one of them ends."""
+        rest = {self.client: b"", self.server: b""}
         while True:
-            for end in select.select(list(ends), [], [])[0]:
-                try:
-                    more = end.recv(65_536)
-                except OSError:
-                    more = b""
+            for end in select.select(list(rest), [], [])[0]:
+                more = end.recv(65_536)
                 if not more:
-                    return self.over(end)
-                whole, ends[end] = frames_of(ends[end] + more)
-                try:
-                    for one in whole:
-                        (self.asked if end is self.client else self.told)(term_of(one))
-                except OSError:
-                    return self.over(self.client)
+                    return
+                whole, rest[end] = frames_of(rest[end] + more)
+                for term in map(term_of, whole):
+                    (self.asked if end is self.client else self.told)(term)
 
     def asked(self, term: Any) -> None:
         self.records |= term == ("subscribe", ("table", "t", "detailed"))
@@ -79,17 +83,9 @@ class Link:
         elif reply[:1] == ("aborted",) or (request == "commit" and reply[0] == "atomic"):
             self.depth -= 1
         elif reply[:1] == ("tid",):
-            self.depth += 1
+            self.depth, self.age = self.depth + 1, reply[1]
         if not self.depth:
             self.touched = set()
-
-    def over(self, end: Any) -> None:
-        if end is self.client:
-            self.wrong.gone(self)
-        for one in (self.client, self.server):
-            with contextlib.suppress(OSError):
-                one.shutdown(socket.SHUT_RDWR)
-            one.close()
 
 
 class Wrong:
@@ -135,7 +131,7 @@ class Wrong:
         return [term]
 
     def gone(self, link: Any) -> None:
-        """The client is gone."""
+        """The connection has ended."""
 
     def hits(self, link: Any, term: Any) -> Any:
         return is_event(term) and not (self.spares and link.records) and self.now_and_then()
@@ -145,11 +141,10 @@ class Wrong:
         if link.pending or not link.depth:
             return False
         with self.aside_lock:
-            reply = self.aside.ask(("transaction", [request], 0))
-        if reply[0] != "atomic":
-            return False
-        link.tell(reply[1][0])
-        return True
+            word, replies = self.aside.ask(("transaction", [request], 0))
+        if word == "atomic":
+            link.tell(replies[0])
+        return bool(word == "atomic")
 
 
 def is_event(term: Any) -> bool:
@@ -203,17 +198,12 @@ class TellsABatchBeforeItsMark(SwapsEvents):
         return term[0] == "mnesia_table_begin" and not link.records
 
 
-class TellsAnEventAfterTheEnd(Wrong):
+class TellsAnEventAfterTheEnd(SwapsEvents):
     spares = True
 
     def told(self, link: Any, term: Any) -> List[Any]:
-        if term[0] == "mnesia_table_end":
-            held, link.held = link.held, []
-            return [term, *held]
-        if not link.held and self.hits(link, term):
-            link.held = [term]
-            return []
-        return [term]
+        is_before = link.held and term[0] != "mnesia_table_end"
+        return [term] if is_before else super().told(link, term)
 
 
 class DropsWhatIsQueuedAtAnEnd(Wrong):
@@ -230,14 +220,11 @@ class DropsWhatIsQueuedAtAnEnd(Wrong):
 class MergesWrites(Wrong):
     def told(self, link: Any, term: Any) -> Any:
         held, link.held = link.held, []
-        if held and is_event(term):
-            (one, age), (other, its) = what_of(held[0]), what_of(term)
-            if (one[:2], age) == (other[:2], its):
-                held = []
-        if is_event(term):
-            link.held = [term]
-            return held
-        return [*held, term]
+        if not is_event(term):
+            return [*held, term]
+        link.held = [term]
+        place = lambda event: (what_of(event)[0][:2], what_of(event)[1])
+        return [one for one in held if place(one) != place(term)]
 
 
 class TellsOldRecordsOfBeforeTheCommit(Wrong):
@@ -253,9 +240,7 @@ class TellsOldRecordsOfBeforeTheCommit(Wrong):
 class GivesANewAgeAfterARestart(Wrong):
     def replied(self, link: Any, request: Any, term: Any) -> Any:
         if term[1] == "restart":
-            self.notes[link.notes["age"]] = True
-        if term[1][:1] == ("tid",):
-            link.notes["age"] = term[1][1]
+            self.notes[link.age] = True
         return term
 
     def told(self, link: Any, term: Any) -> List[Any]:
@@ -287,9 +272,8 @@ class ReadsForAWriteByAReadLock(Wrong):
 
 class LosesATableLock(Wrong):
     def asked(self, link: Any, request: Any) -> Any:
-        if request[0] in ("read_lock_table", "write_lock_table") and link.depth and not link.pending:
-            return link.tell("ok")
-        return request
+        is_lost = request[0] in ("read_lock_table", "write_lock_table") and link.depth and not link.pending
+        return link.tell("ok") if is_lost else request
 
 
 class KeepsNoLockOfWhatFailed(Wrong):
@@ -303,9 +287,8 @@ class KeepsNoLockOfWhatFailed(Wrong):
 
 class LosesAWrite(Wrong):
     def asked(self, link: Any, request: Any) -> Any:
-        if request[0] == "write" and len(request[1]) == 4 and link.depth and not link.pending and self.now_and_then():
-            return link.tell("ok")
-        return request
+        is_right = request[0] == "write" and len(request[1]) == 4 and link.depth and not link.pending
+        return link.tell("ok") if is_right and self.now_and_then() else request
 
 
 class TellsAnOldRead(Wrong):
@@ -336,25 +319,24 @@ class CommitsWhatIsGone(Wrong):
 
 
 class CommitsWhatIsAborted(Wrong):
+    is_inner = False
+
     def asked(self, link: Any, request: Any) -> Any:
-        return "commit" if request[0] == "abort" and link.depth == 1 and not link.pending else request
+        is_so = request[0] == "abort" and link.depth and (link.depth > 1) == self.is_inner
+        return "commit" if is_so and not link.pending else request
 
     def replied(self, link: Any, request: Any, term: Any) -> Any:
         return ("reply", ("aborted", request[1])) if request[0] == "abort" and term[1][0] == "atomic" else term
 
 
-class KeepsAChildThatIsAborted(Wrong):
-    def asked(self, link: Any, request: Any) -> Any:
-        return "commit" if request[0] == "abort" and link.depth > 1 and not link.pending else request
-
-    replied = CommitsWhatIsAborted.replied
+class KeepsAChildThatIsAborted(CommitsWhatIsAborted):
+    is_inner = True
 
 
 class RestartsForNothing(Wrong):
     def asked(self, link: Any, request: Any) -> Any:
-        if request[0] == "read" and link.depth == 1 and not link.pending and self.now_and_then():
-            return link.tell("restart")
-        return request
+        is_read = request[0] == "read" and link.depth == 1 and not link.pending
+        return link.tell("restart") if is_read and self.now_and_then() else request
 
 
 class TellsAnotherOverflow(Wrong):
@@ -386,10 +368,8 @@ class OverflowsWithRoomLeft(Wrong):
     def replied(self, link: Any, request: Any, term: Any) -> Any:
         if request == "own":
             return None
-        if term[1][:1] == ("tid",):
-            link.notes["age"] = term[1][1]
         if request == "commit" and isinstance(term[1][1], int):
-            self.notes[link.notes["age"]] = term[1][1]
+            self.notes[link.age] = term[1][1]
         return term
 
     def told(self, link: Any, term: Any) -> Any:
@@ -466,16 +446,12 @@ class ServesOneAfterAnother(Wrong):
 class MakesCallsInTurn(Wrong):
     """A call is made after the reply to the one before, of all clients: one that waits for a lock delays the others."""
 
-    def __init__(self, port: int) -> None:
-        self.turn = threading.Lock()
-        super().__init__(port)
-
     def asked(self, link: Any, request: Any) -> Any:
-        self.turn.acquire()
+        self.aside_lock.acquire()
         return request
 
     def replied(self, link: Any, request: Any, term: Any) -> Any:
-        self.turn.release()
+        self.aside_lock.release()
         return term
 
 
