@@ -124,7 +124,11 @@ class Server:
 
     def settled(self, wanted: Tuple[int, int]) -> Tuple[int, int, int]:
         """What it holds, once its threads and descriptors are as many as wanted."""
-        return soon(self.held, lambda found: found[:2] == wanted)
+
+        def settles(found: Tuple[int, int, int]) -> bool:
+            return found[:2] == wanted
+
+        return soon(self.held, settles)
 
     def accepts_no_more(self) -> None:
         """It may open no more handles: the next connection is closed with no frame. The accept that waits has its handle already."""

@@ -217,14 +217,19 @@ class DropsWhatIsQueuedAtAnEnd(Wrong):
         return [] if is_event(term) and link.notes.get("ends") else [term]
 
 
+def place_of(event: Any) -> Any:
+    """The table and the key that it changes, and its transaction's age."""
+    what, age = what_of(event)
+    return what[:2], age
+
+
 class MergesWrites(Wrong):
     def told(self, link: Any, term: Any) -> Any:
         held, link.held = link.held, []
         if not is_event(term):
             return [*held, term]
         link.held = [term]
-        place = lambda event: (what_of(event)[0][:2], what_of(event)[1])
-        return [one for one in held if place(one) != place(term)]
+        return [one for one in held if place_of(one) != place_of(term)]
 
 
 class TellsOldRecordsOfBeforeTheCommit(Wrong):
