@@ -24,6 +24,7 @@ use Rattle.tab_server.specs.contracts.connection.Streams as streams
 use Rattle.tab_server.specs.contracts.dispatcher.Dispatcher as dispatcher
 use Rattle.tab_server.specs.contracts.line.Line as line
 use Rattle.tab_server.specs.contracts.line.Mail as mail
+use Rattle.tab_server.specs.contracts.settings.Settings as settings
 use Rattle.tab_server.proofs.line.Turn.TheSendSync as turn_marks
 
 pub seat-send : IsSend seat.the_row
@@ -32,8 +33,14 @@ seat-send = search (sendable, declared_send, as_row_send) depth 20
 pub seat-sync : IsSync seat.the_row
 seat-sync = search (sendable, declared_sync, as_row_sync) depth 20
 
+settings-send : IsSend settings.the_row
+settings-send = search (sendable, crosses, declared_send, as_row_send, delivery_marks.the_send, option_marks.the_send) depth 20
+
+settings-sync : IsSync settings.the_row
+settings-sync = search (sendable, crosses, declared_sync, as_row_sync, delivery_marks.the_sync, option_marks.the_sync) depth 20
+
 pub streams-send : IsSend streams.the_row
-streams-send = search (sendable, crosses, declared_send, as_row_send, delivery_marks.the_send) depth 20
+streams-send = search (sendable, crosses, declared_send, as_row_send, settings-send) depth 20
 
 -- an item may, since terms may, and those that are shared
 events_field : IsSend (as_row (row_field event_terms.the_row))
@@ -104,5 +111,5 @@ module _ (H : RattleType) (names : naming.Ghosts H.Denot) where
   connection-sync h =
       declared_sync (connection.the_type H names) (
         search (crosses, as_row_sync, line-send, line-sync) depth 12,
-        (search simple_sync depth 20, (search simple_sync, (search simple_sync depth 20, (search simple_sync depth 20, tt)))),
+        (search simple_sync depth 20, (search (simple_sync, settings-sync) depth 20, (search simple_sync depth 20, (search simple_sync depth 20, tt)))),
       )
