@@ -8,6 +8,9 @@ use tab_model::Lock;
 use tab_post::Host;
 use tab_term::Atom;
 
+/// The most tables that an activity names, so that the book is not locked for long.
+const TABLES: usize = 16;
+
 /// The state of a session.
 #[derive(Clone, Copy, Debug, PartialEq, Eq)]
 pub enum Doing {
@@ -30,6 +33,8 @@ pub struct Activity {
     pub levels: u64,
     /// The tables of its locks, each with the number of requests that were granted one there.
     pub locks: Vec<(Atom, u64)>,
+    /// The number of those requests in further tables.
+    pub others: u64,
     /// The table of the lock that it waits for or was restarted for.
     pub awaited: Option<Atom>,
     /// The sessions that keep it from that lock.
@@ -60,14 +65,18 @@ impl<H: Host> Book<H> {
             None => None,
         };
         let mut locks = Vec::new(self.alloc);
+        let mut others: u64 = 0;
         for lock in self.core.locks(session) {
-            self.count(&mut locks, lock)?;
+            if !self.count(&mut locks, lock)? {
+                others = others.saturating_add(1);
+            }
         }
         Ok(Activity {
             session,
             doing,
             levels: self.core.levels(session),
             locks,
+            others,
             awaited,
             blockers: self.blockers(session, doing),
             items: self.items(session),
@@ -86,16 +95,19 @@ impl<H: Host> Book<H> {
         }
     }
 
-    /// Counts one more lock on its table.
-    fn count(&self, locks: &mut Vec<(Atom, u64)>, lock: &Lock) -> Result<(), AllocError> {
+    /// Counts one more lock on its table. Returns false if that is one table too many.
+    fn count(&self, locks: &mut Vec<(Atom, u64)>, lock: &Lock) -> Result<bool, AllocError> {
         for counted in locks.iter_mut() {
             if counted.0 == lock.table {
                 counted.1 = counted.1.saturating_add(1);
-                return Ok(());
+                return Ok(true);
             }
         }
+        if locks.len() >= TABLES {
+            return Ok(false);
+        }
         locks.push((lock.table.try_clone(self.alloc)?, 1))?;
-        Ok(())
+        Ok(true)
     }
 
     fn blockers(&self, session: u32, doing: Doing) -> ArrayVec<u32, SESSIONS> {

@@ -89,7 +89,7 @@ fn push_blockers(text: &mut String, activity: &Activity) -> Result<(), AllocErro
     Ok(())
 }
 
-/// Appends the tables in which the session has locks, each with the count of `Activity::locks`.
+/// Appends the tables in which the session has locks, each with the count of `Activity::locks`, and the count of others.
 fn push_locks(text: &mut String, activity: &Activity) -> Result<(), AllocError> {
     if activity.locks.is_empty() {
         text.push('-')?;
@@ -100,6 +100,9 @@ fn push_locks(text: &mut String, activity: &Activity) -> Result<(), AllocError> 
         }
         push_name(text, table.as_str())?;
         write!(text, "={count}")?;
+    }
+    if activity.others > 0 {
+        write!(text, ",+{}", activity.others)?;
     }
     Ok(())
 }
