@@ -4,7 +4,9 @@ use arrayvec::ArrayVec;
 use std::net::{Shutdown, SocketAddr, TcpStream};
 use std::sync::atomic::{AtomicBool, Ordering};
 use std::sync::{Mutex, Wait};
-use tab_book::SESSIONS;
+
+/// The most connections. One that replaces another may be added before that is removed, so it is twice the number of sessions.
+const ROOM: usize = 128;
 
 /// A session's connection.
 #[derive(Drop, Default)]
@@ -12,47 +14,55 @@ struct Connected {
     session: u32,
     /// The client's address; None for a client at a socket file.
     peer: Option<SocketAddr>,
-    /// A duplicate of the stream, by which the connection is ended. None if the server ends none, or if no descriptor was
-    /// left.
-    stream: Option<TcpStream>,
+    /// The descriptor by which the connection is ended. None if the server ends none.
+    handle: Option<TcpStream>,
+    /// True if the session has asked to subscribe.
+    subscribes: bool,
 }
 
 /// The connections of joined sessions, and whether more are accepted.
 #[derive(Drop)]
 pub struct Roster {
-    ends: bool,
     is_closing: AtomicBool,
-    connected: Mutex<ArrayVec<Connected, SESSIONS>>,
+    connected: Mutex<ArrayVec<Connected, ROOM>>,
 }
 
 impl Roster {
-    /// Creates an empty roster. If `ends`, it keeps a descriptor of its own for each connection.
-    pub fn new(ends: bool) -> Roster {
+    /// Creates an empty roster.
+    pub fn new() -> Roster {
         Roster {
-            ends,
             is_closing: AtomicBool::new(false),
             connected: Mutex::new(ArrayVec::new()),
         }
     }
 
-    /// Adds the session's connection. It ends the reading of requests at once if no more connections are accepted, or if
-    /// no descriptor is left to end the connection later.
-    pub fn join<R: Wait>(&self, rt: &R, session: u32, stream: &TcpStream) {
+    /// Adds the session's connection. It ends the reading of requests at once if no more connections are accepted.
+    pub fn join<R: Wait>(
+        &self,
+        rt: &R,
+        session: u32,
+        stream: &TcpStream,
+        handle: Option<TcpStream>,
+    ) {
         let peer = stream.peer_addr().ok();
-        let kept = if self.ends {
-            stream.try_clone().ok()
-        } else {
-            None
-        };
-        let is_lost = self.ends && kept.is_none();
         let mut connected = self.connected.lock(rt);
         let _kept = connected.try_push(Connected {
             session,
             peer,
-            stream: kept,
+            handle,
+            subscribes: false,
         });
-        if is_lost || self.is_closing() {
+        if self.is_closing() {
             let _shut = stream.shutdown(Shutdown::Read);
+        }
+    }
+
+    /// Records that the session has asked to subscribe.
+    pub fn subscribe<R: Wait>(&self, rt: &R, session: u32) {
+        for connected in self.connected.lock(rt).iter_mut() {
+            if connected.session == session {
+                connected.subscribes = true;
+            }
         }
     }
 
@@ -83,11 +93,11 @@ impl Roster {
         self.is_closing.load(Ordering::SeqCst)
     }
 
-    /// Returns the numbers of the sessions that have a connection.
-    pub fn sessions<R: Wait>(&self, rt: &R) -> ArrayVec<u32, SESSIONS> {
+    /// Returns the sessions that have a connection, each with whether it has asked to subscribe.
+    pub fn sessions<R: Wait>(&self, rt: &R) -> ArrayVec<(u32, bool), ROOM> {
         let mut sessions = ArrayVec::new();
         for connected in self.connected.lock(rt).iter() {
-            let _kept = sessions.try_push(connected.session);
+            let _kept = sessions.try_push((connected.session, connected.subscribes));
         }
         sessions
     }
@@ -95,7 +105,7 @@ impl Roster {
     /// Shuts down the session's connection for reading, for writing, or for both, as `how` says.
     pub fn shut<R: Wait>(&self, rt: &R, session: u32, how: Shutdown) {
         for connected in self.connected.lock(rt).iter() {
-            if let (true, Some(stream)) = (connected.session == session, &connected.stream) {
+            if let (true, Some(stream)) = (connected.session == session, &connected.handle) {
                 let _shut = stream.shutdown(how);
             }
         }

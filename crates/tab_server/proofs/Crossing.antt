@@ -40,7 +40,7 @@ settings-sync : IsSync settings.the_row
 settings-sync = search (sendable, crosses, declared_sync, as_row_sync, delivery_marks.the_sync, option_marks.the_sync) depth 20
 
 pub streams-send : IsSend streams.the_row
-streams-send = search (sendable, crosses, declared_send, as_row_send, settings-send) depth 20
+streams-send = search (sendable, crosses, declared_send, as_row_send, option_marks.the_send, settings-send) depth 20
 
 -- an item may, since terms may, and those that are shared
 events_field : IsSend (as_row (row_field event_terms.the_row))

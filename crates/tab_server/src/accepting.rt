@@ -187,16 +187,17 @@ fn serve_connection<H: Host + Threads + Send + Sync, G: Gate + Notes + Sync>(
     shared: &Shared<H>,
     seat: &Seat,
     inbox: Inbox<H>,
-    streams: Streams,
+    mut streams: Streams,
     senders: &Senders,
     dispatcher: &Dispatcher<H>,
     gate: &G,
 ) {
+    let handle = streams.take_handle();
     let Ok((connection, reader)) = Connection::new(alloc, streams, *seat, inbox) else {
         shared.leave(host, seat);
         return;
     };
-    gate.connected(seat.session(), &connection.stream);
+    gate.connected(seat.session(), &connection.stream, handle);
     gate.note(Note::Started(seat.session()));
     let requests = RequestStream::new(reader, senders, seat.session());
     let ending = serve_streams(

@@ -31,6 +31,8 @@ pub struct Streams {
     reader: TcpStream,
     writer: TcpStream,
     stream: TcpStream,
+    /// The descriptor by which another thread can end the connection.
+    handle: Option<TcpStream>,
     family: Family,
     settings: Settings,
 }
@@ -42,21 +44,33 @@ impl Streams {
         family.set_nodelay(&stream);
         stream.set_read_timeout(duration(settings.tick()))?;
         stream.set_write_timeout(duration(settings.idle))?;
+        let handle = if settings.handles {
+            Some(stream.try_clone()?)
+        } else {
+            None
+        };
         Ok(Streams {
             reader: stream.try_clone()?,
             writer: stream.try_clone()?,
             stream,
+            handle,
             family,
             settings,
         })
     }
 
-    /// Returns the stream to write to, and drops the other two.
+    /// Takes the descriptor by which another thread can end the connection.
+    pub fn take_handle(&mut self) -> Option<TcpStream> {
+        self.handle.take()
+    }
+
+    /// Returns the stream to write to, and drops the others.
     pub fn writer(self) -> TcpStream {
         let Streams {
             reader: _,
             writer,
             stream: _,
+            handle: _,
             family: _,
             settings: _,
         } = self;
@@ -76,6 +90,7 @@ impl<H: Host> Connection<H> {
             reader,
             writer,
             stream,
+            handle: _,
             family,
             settings,
         } = streams;

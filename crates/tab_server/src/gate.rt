@@ -56,6 +56,9 @@ pub trait Counts {
 
     /// The session's transaction has ended.
     fn end(&self, session: u32);
+
+    /// The session asks to subscribe.
+    fn subscribe(&self, session: u32);
 }
 
 /// A receiver of each call of each session: before it is made, and after its reply is written. A test blocks calls by
@@ -72,8 +75,9 @@ pub trait Gate: Counts {
 pub trait Notes: Counts {
     fn note(&self, note: Note);
 
-    /// Reports the connection of a session that has joined, before its `Note::Started`.
-    fn connected(&self, session: u32, stream: &TcpStream);
+    /// Reports the connection of a session that has joined, before its `Note::Started`. The handle ends the connection, if
+    /// the settings ask for one.
+    fn connected(&self, session: u32, stream: &TcpStream, handle: Option<TcpStream>);
 
     /// Returns whether no more connections are accepted.
     fn is_closing(&self) -> bool;
@@ -94,6 +98,8 @@ impl Counts for Open {
     fn begin(&self, _session: u32) {}
 
     fn end(&self, _session: u32) {}
+
+    fn subscribe(&self, _session: u32) {}
 }
 
 impl Gate for Open {
@@ -105,7 +111,7 @@ impl Gate for Open {
 impl Notes for Open {
     fn note(&self, _note: Note) {}
 
-    fn connected(&self, _session: u32, _stream: &TcpStream) {}
+    fn connected(&self, _session: u32, _stream: &TcpStream, _handle: Option<TcpStream>) {}
 
     fn is_closing(&self) -> bool {
         false

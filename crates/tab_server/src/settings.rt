@@ -16,6 +16,8 @@ pub struct Settings {
     pub idle_sessions: Option<u32>,
     /// An abort ends the wait of the operation before it, which has no reply then.
     pub aborts: bool,
+    /// Each connection has one descriptor more, by which another thread can end it.
+    pub handles: bool,
 }
 
 impl Settings {
@@ -25,6 +27,7 @@ impl Settings {
         idle: None,
         idle_sessions: None,
         aborts: false,
+        handles: false,
     };
 
     /// The seconds after which a read without bytes ends: those of the only limit, or one if there are two.

@@ -135,6 +135,7 @@ impl<'a, H: Host, G: Gate> Requests<'a, H, G> {
     {
         if matches!(command, Command::Subscribe(..)) {
             self.dispatcher.watch(self.line);
+            self.answers.counts().subscribe(self.seat.session());
         }
         self.puts.ask(&command);
         let answered = self.held.step(&self.seat, Step::Do(command))?;

@@ -70,6 +70,8 @@ impl<R: Threads + Clock> Counts for Held<R> {
     fn begin(&self, _session: u32) {}
 
     fn end(&self, _session: u32) {}
+
+    fn subscribe(&self, _session: u32) {}
 }
 
 impl<R: Threads + Clock> Gate for Held<R> {
@@ -89,7 +91,7 @@ impl<R: Threads + Clock> Gate for Held<R> {
 impl<R: Threads + Clock> Notes for Held<R> {
     fn note(&self, _note: Note) {}
 
-    fn connected(&self, _session: u32, _stream: &TcpStream) {}
+    fn connected(&self, _session: u32, _stream: &TcpStream, _handle: Option<TcpStream>) {}
 
     fn is_closing(&self) -> bool {
         false
@@ -113,6 +115,8 @@ impl<R: Threads + Clock> Counts for InTurn<R> {
     fn begin(&self, _session: u32) {}
 
     fn end(&self, _session: u32) {}
+
+    fn subscribe(&self, _session: u32) {}
 }
 
 impl<R: Threads + Clock> Gate for InTurn<R> {
@@ -134,7 +138,7 @@ impl<R: Threads + Clock> Gate for InTurn<R> {
 impl<R: Threads + Clock> Notes for InTurn<R> {
     fn note(&self, _note: Note) {}
 
-    fn connected(&self, _session: u32, _stream: &TcpStream) {}
+    fn connected(&self, _session: u32, _stream: &TcpStream, _handle: Option<TcpStream>) {}
 
     fn is_closing(&self) -> bool {
         false

@@ -42,7 +42,7 @@ pub trait Drained: Paged {
 /// The part of the connections that is ended.
 #[derive(Clone, Copy, Debug, PartialEq, Eq)]
 enum Stage {
-    /// The reading of requests, for sessions without an open transaction.
+    /// The reading of requests, for sessions without an open transaction; for subscribers after all others have ended.
     Settled,
     /// The reading of requests, for all sessions.
     All,
@@ -143,15 +143,27 @@ fn end_connections<H: Host, G: Drained>(
     host: &H,
     shared: &Shared<H>,
     gate: &G,
-    sessions: &[u32],
+    sessions: &[(u32, bool)],
     stage: Stage,
 ) {
-    for session in sessions {
+    let writers = some_may_write(host, shared, sessions);
+    for (session, subscribes) in sessions {
         let how = match stage {
+            Stage::Settled if *subscribes && writers => continue,
             Stage::Settled if shared.hold(host).levels(*session) > 0 => continue,
             Stage::Settled | Stage::All => Shutdown::Read,
             Stage::Writes => Shutdown::Both,
         };
         gate.roster().shut(host, *session, how);
     }
+}
+
+/// Returns whether a session goes on that may commit: one with an open transaction, or one that has never subscribed.
+fn some_may_write<H: Host>(host: &H, shared: &Shared<H>, sessions: &[(u32, bool)]) -> bool {
+    for (session, subscribes) in sessions {
+        if !*subscribes || shared.hold(host).levels(*session) > 0 {
+            return true;
+        }
+    }
+    false
 }

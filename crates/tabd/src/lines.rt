@@ -22,8 +22,6 @@ pub struct Told {
     pub slow: Option<u32>,
     /// The most seconds that a transaction may be open.
     pub limit: Option<u32>,
-    /// True if the end of standard input ends connections.
-    pub drains: bool,
     /// The most seconds that a session may be idle.
     pub idle: Option<u32>,
 }
@@ -58,7 +56,6 @@ impl<R: Wait, E: Target, I: Source> Lines<R, E, I> {
             meters,
             slow,
             limit,
-            drains,
             idle,
         } = told;
         Lines {
@@ -70,7 +67,7 @@ impl<R: Wait, E: Target, I: Source> Lines<R, E, I> {
             meters,
             slow,
             limit,
-            roster: Roster::new(drains || limit.is_some()),
+            roster: Roster::new(),
             idle,
             input: Mutex::new(input),
             begun: AtomicBool::new(false),
@@ -151,6 +148,10 @@ impl<R: Wait + Clock, E: Target, I: Source> Counts for Lines<R, E, I> {
             self.log_slow(session, meters.end(&self.rt, session));
         }
     }
+
+    fn subscribe(&self, session: u32) {
+        self.roster.subscribe(&self.rt, session);
+    }
 }
 
 impl<R: Wait + Clock, E: Target, I: Source> Paged for Lines<R, E, I> {
@@ -208,12 +209,12 @@ impl<R: Wait + Clock, E: Target, I: Source> Slow for Lines<R, E, I> {
             return;
         };
         for (session, seconds) in &meters.take_over(&self.rt, u64::from(most)) {
+            self.roster.shut(&self.rt, *session, Shutdown::Both);
             if let Ok(what) = format!(in self.alloc;
                 "is ended: its transaction is open for {seconds} s"
             ) {
                 self.put_of(*session, &what);
             }
-            self.roster.shut(&self.rt, *session, Shutdown::Both);
         }
     }
 }
@@ -234,7 +235,10 @@ impl<R: Wait + Clock, E: Target, I: Source> Drained for Lines<R, E, I> {
         let mut piece = [0u8; PIECE];
         for _ in self.rt.forever() {
             match self.input.lock(&self.rt).get(&mut piece) {
-                Ok(0) | Err(_) => return,
+                Ok(0) | Err(_) => {
+                    self.put("tabd: standard input has ended\n");
+                    return;
+                }
                 Ok(_) => {}
             }
         }
@@ -272,8 +276,8 @@ impl<R: Wait + Clock, E: Target, I: Source> Notes for Lines<R, E, I> {
         }
     }
 
-    fn connected(&self, session: u32, stream: &TcpStream) {
-        self.roster.join(&self.rt, session, stream);
+    fn connected(&self, session: u32, stream: &TcpStream, handle: Option<TcpStream>) {
+        self.roster.join(&self.rt, session, stream, handle);
     }
 
     fn is_closing(&self) -> bool {

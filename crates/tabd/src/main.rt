@@ -33,7 +33,6 @@ fn main(rt: HostRuntime) -> ExitCode {
             meters: None,
             slow: None,
             limit: None,
-            drains: false,
             idle: None,
         },
     };
@@ -64,7 +63,6 @@ fn told(service: &Service) -> Told {
         meters: meters(service),
         slow: service.slow,
         limit: service.limit,
-        drains: service.drains,
         idle: service.idle,
     }
 }

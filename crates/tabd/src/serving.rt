@@ -34,6 +34,7 @@ fn settings(service: &Service) -> Settings
         idle: service.idle,
         idle_sessions: service.idle_sessions,
         aborts: service.aborts,
+        handles: service.drains || service.limit.is_some(),
     }
 }
 
