@@ -22,6 +22,7 @@ from tests.lib.wire import Connection, frame
 seats = pytest.mark.seats
 # The address of a session's client in a line.
 AT = r"(?: \(127\.0\.0\.1:\d+\))?"
+HAS_ENDED = "tabd: standard input has ended\n"
 pytestmark = [pytest.mark.serial, pytest.mark.parametrize("place", ["at a port", "at a file"])]
 
 
@@ -117,6 +118,17 @@ def test_out_of_descriptors(server: Server) -> None:
         connection.break_off()
     _, found = server.seated()
     assert found[0] == "tid", "the last"
+
+
+@seats(8, "--transaction-limit", "60", files=16, said=r"(tabd: no connection was accepted\n)*")
+def test_few_descriptors(server: Server) -> None:
+    """A connection for which a descriptor is missing has no session, and no request of it is done."""
+    connections = server.clients(8)
+    for number, connection in enumerate(connections):
+        connection.send(("create_table", f"t{number}", []))
+    found = [connection.stream.read(1) for connection in connections[3:]]
+    assert found == [b""] * len(found), "those too many"
+    script(*((connection, ("create_table", "t7", []), ATOMIC) for connection in connections[:1]))
 
 
 @seats(3, "--idle", "1", said=rf"tabd: session 2{AT} was idle\n")
@@ -267,7 +279,7 @@ def end_input(server: Server) -> float:
 
 
 def test_the_end_of_input(drained: Server) -> None:
-    """No more are accepted, who has no transaction is closed once it has its events, and a transaction goes on to its end."""
+    """No more are accepted, one without a transaction is closed, a transaction goes on to its end, and a subscriber gets the events of its commit."""
     writer, reader, idle = drained.connect(), drained.connect(), drained.connect()
     script((writer, CREATE, ATOMIC), (reader, watch(), HERE_OK), (idle, "begin", ("tid", 1)), (idle, "commit", ("atomic", 1)))
     script((writer, ("transaction", [write(1, "a")], 0), ("atomic", [OK])), (writer, "begin", ("tid", 3)), (writer, write(2, "b"), OK))
@@ -277,12 +289,12 @@ def test_the_end_of_input(drained: Server) -> None:
     end_input(drained)
     assert idle.stream.read() == b"", "one without a transaction"
     assert [reader.event()[0] for _ in range(2)] == ["mnesia_table_begin", "mnesia_table_event"], "its events"
-    assert reader.stream.read() == b"", "one that watches"
     with pytest.raises(ConnectionRefusedError):
         drained.connect()
     script((writer, ("read", "t", 1), [("t", 1, "a")]), (writer, "commit", ("atomic", 4)))
-    assert writer.stream.read() == b"", "the last"
-    drained.ends()
+    assert writer.stream.read() == b"", "the last that writes"
+    assert (reader.event(), reader.stream.read()) == (event(2, "b", 3), b""), "the one that watches"
+    drained.ends(said=HAS_ENDED)
 
 
 @pytest.mark.words("--idle", "2")
@@ -297,14 +309,14 @@ def test_a_transaction_at_the_end_of_input(drained: Server) -> None:
     script((younger, ("read", "t", 4), []))
     assert younger.stream.read() == b"", "the younger's end"
     assert time.monotonic() - ended > 1.5, "its time"
-    drained.ends()
+    drained.ends(said=HAS_ENDED)
     assert time.monotonic() - ended < 8, "the end"
 
 
 def test_an_input_that_has_ended(drained: Server) -> None:
     """A server without connections ends at once."""
     ended = end_input(drained)
-    drained.ends()
+    drained.ends(said=HAS_ENDED)
     assert time.monotonic() - ended < 2, "its end"
 
 
@@ -316,7 +328,7 @@ def test_an_end_without_forever(tabd: str, tmp_path: Any, place: str) -> None:
         script((client, "begin", ("tid", 1)), (client, "commit", ("atomic", 1)))
         end_input(server)
         assert client.stream.read() == b"", "its client"
-        server.ends()
+        server.ends(said=HAS_ENDED)
 
 
 test_broken_off_during_a_wait = seats(3)(scripted("broken off during a wait"))

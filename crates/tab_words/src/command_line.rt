@@ -88,7 +88,7 @@ fn forever<'a>(alloc: Global) -> Arg<'a>
     ensures own { IsFalse result.global }
 {
     flag(alloc, "forever").help(
-        "A connection that ends makes room for another, and the server never ends by itself",
+        "A connection that ends makes room for another, and the server ends by itself only with --drain",
     )
 }
 
@@ -120,7 +120,7 @@ fn slow<'a>(alloc: Global) -> Arg<'a>
     ensures own { IsFalse result.global }
 {
     number_of(alloc, "slow", "SECONDS", 1, 86_400).help(
-        "A transaction that was open for so long has a line on standard error after its end, 1 to 86400",
+        "A transaction has a line on standard error when it has been open for so long, and at its end, 1 to 86400",
     )
 }
 
@@ -168,7 +168,7 @@ fn metrics<'a>(alloc: Global) -> Arg<'a>
         .long("metrics")
         .value_name("PORT")
         .help(
-            "A port on 127.0.0.1 where GET /metrics is answered by counters, as Prometheus reads them; 0 lets the system choose one",
+            "A port on 127.0.0.1 with counters for Prometheus at /metrics and sessions at /sessions; 0 lets the system choose one",
         )
         .action(ArgAction::Set)
         .value_parser(value_parser!(u16))
