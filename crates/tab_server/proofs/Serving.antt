@@ -1,5 +1,5 @@
 -- What a command's calls give.
-use Rattle.std.proofs.Common.{◌≡◌, ◌⊎◌, inl, inr, ℕ, List, ◌∷◌, [], Bool, false, refl, subst, Some, ap, sym}
+use Rattle.std.proofs.Common.{◌≡◌, inl, inr, ℕ, List, ◌∷◌, [], false, refl, subst, Some, sym}
 use Rattle.tab_model.specs.declared.ask.Ask.TheVariants.{Do as DoCommand}
 use Rattle.tab_model.specs.declared.data.Command.{Command}
 use Rattle.tab_model.specs.declared.data.Reply.{Reply}

@@ -1,5 +1,5 @@
 -- What a served session is sent for its requests (this project's own rules).
-use Rattle.std.specs.Prelude.{◌≡◌, ◌⊎◌, ℕ, List, [], ◌∷◌, ◌++◌, Bool, true, false, Option, None, Some, Result, Ok, Err, refl}
+use Rattle.std.specs.Prelude.{◌≡◌, ◌⊎◌, ℕ, List, [], ◌∷◌, ◌++◌, false, Option, None, Some, Result, Ok, Err, refl}
 use Rattle.std.proofs.Common.{subst, ◌∙◌}
 use Rattle.tab_term.specs.Data.{PlainTerm}
 use Rattle.tab_etf.specs.Reading.{whole}
