@@ -101,7 +101,7 @@ fn drain<H: Host, G: Drained>(
         if sessions.is_empty() || closing.is_over() {
             return;
         }
-        let stage = stage(age(gate, begun), patience);
+        let stage = stage_at(age(gate, begun), patience);
         end_connections(host, shared, gate, &sessions, stage);
         closing.pause(host);
     }
@@ -121,7 +121,7 @@ fn waits_to_serve<H: Host, G: Drained>(host: &H, gate: &G, closing: &Closing) ->
     unreachable!()
 }
 
-fn stage(age: u64, patience: u64) -> Stage {
+fn stage_at(age: u64, patience: u64) -> Stage {
     if age < patience {
         Stage::Settled
     } else if age < patience.saturating_add(GRACE) {
