@@ -26,7 +26,7 @@ from tests.lib.wire import Connection, Term, spell  # noqa: E402
 Make = Callable[[Connection], None]
 Hold = Callable[[Any, Connection], int]
 
-RECORDS, TRANSACTIONS, SCANS, DUMPS, READERS, ASKED = 100_000, 1_024, 64, 32, 12, 100
+RECORDS, TRANSACTIONS, SCANS, DUMPS, READERS, ASKED, OVER = 100_000, 1_024, 64, 32, 12, 100, 40
 # As many as a transaction may have, but one.
 OPERATIONS = 999
 # Records of the key of a bag, and the writes of a one-shot there.
@@ -136,6 +136,8 @@ def rows() -> Iterator[Tuple[str, List[str], Make, Hold]]:
     ]
     for what, operation, reply in operations:
         yield f"{TRANSACTIONS} one-shots of {OPERATIONS} {what}", [], few, partial(full_journal, operation, reply)
+    lists = holding.empty_lists(MEGABYTE)
+    yield f"{OVER} writes over a record with a list of 1,000,000 empty lists", [], table(lists, 1), partial(holding.writes_over, lists, OVER)
     yield f"a one-shot of {ASKED} all_keys, {RECORDS} records, at its peak", [], small, partial(holding.answers, ASKED, keys)
     for size, count in ((100_000, 300), (1_000, 30_000)):
         yield f"{DUMPS} dumps of 30 MB in an outbox, {count} records", [], *of_long(size, count, holding.dumps, DUMPS)

@@ -13,6 +13,8 @@ Record = Callable[[int], Term]
 small_record: Record = lambda key: ("t", key, key)
 halved: Record = lambda key: ("t", key, key % 2)
 long_record: Callable[[int], Record] = lambda size: lambda key: ("t", key, bytes([key % 256]) * size)
+# An empty list is a byte of a request, and 32 bytes of the server.
+empty_lists: Callable[[int], Record] = lambda size: lambda key: ("t", key, [[]] * size)
 # All are of one key, and as long as each other.
 bag_record: Record = lambda number: ("t", 0, 1_000 + number)
 # One of ten of its key.
@@ -93,6 +95,15 @@ def short_reads(count: int, server: Server, client: Connection) -> int:
     """One-shots of as many operations as one may ask. The journal is full by these long before it has as many entries as it may."""
     for _ in range(count):
         ask_long(client, ("transaction", [("match_object", ("t", "_", "none"))] * 999, 0), size_of(("atomic", [[]] * 999)))
+    return server.kilobytes()
+
+
+def writes_over(record: Record, count: int, server: Server, client: Connection) -> int:
+    """One-shots that each write the same record, which the journal keeps until it is full."""
+    request = frame(one_shot(("write", record(0))))
+    for number in range(count):
+        client.socket.sendall(request)
+        assert client.reply() == ("atomic", [OK]), f"write {number}"
     return server.kilobytes()
 
 

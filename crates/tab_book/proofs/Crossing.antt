@@ -268,11 +268,8 @@ module _ (H : RattleType) (names : naming.Ghosts H.Denot) (rooms : host.Ghosts H
         (
           search parts,
           (
-            search parts,
-            (
-              search (parts, register_marks.the_send),
-              (search (parts, prefix_marks.the_send), (as_row_send (core.the_field (channel_post.the_row H names) posts) (core-send (channel_post.the_row H names) posts (ChannelPost-send H names h)), (search (parts, journal-send) depth 20, tt))),
-            ),
+            search (parts, register_marks.the_send),
+            (search (parts, prefix_marks.the_send), (as_row_send (core.the_field (channel_post.the_row H names) posts) (core-send (channel_post.the_row H names) posts (ChannelPost-send H names h)), (search (parts, journal-send) depth 20, tt))),
           ),
         ),
       ))

@@ -23,16 +23,16 @@ use Rattle.tab_model.proofs.PostsStay.{JoinsAs, stays, found_has, post_stays}
 use Rattle.tab_model.proofs.Schedules.{new_sound}
 use Rattle.tab_model.proofs.ReachedWaits.{new_rising, step_rising}
 use Rattle.tab_model.proofs.StandingLemmas.{new_follows, step_follows, fold_follows, forget_follows, history_of, commits_are, sent_is, watched_is, sent_grows, left_away}
-use Rattle.tab_journal.specs.Journals.{JournalView, fold_oldest, forget, is_full, full_weight, weight_in}
+use Rattle.tab_journal.specs.Journals.{JournalView, fold_oldest, forget, is_full, full_weight, weight_in, bytes_in}
 use Rattle.tab_core.specs.Steps.{takes_no_memory}
 use Rattle.tab_post.specs.Ends.{empty_outbox}
 use Rattle.tab_book.specs.Running.{Running, IsRunning, HavePlaces, Holds}
 use Rattle.tab_book.specs.Steps.{Step, oldest_joined, folded, with_folds, has_to_fold, AreNeeded, FoldsWhileFull, StepsTo, MayFold, with_entries, leaves, has_free_seat, with_new_session, StepsFrom, KeepsPosts, ask_of, is_never_refused}
 
-pub new_holds : (outbox seen : ℕ) (limits : Limits) (n : ℕ) → 1 ≤ outbox → 1 ≤ n → Holds outbox seen (new limits) (record { base = empty; entries = []; limit = n })
-new_holds outbox seen limits n room limit = record {
-  room = room;
+pub new_holds : (seen : ℕ) (limits : Limits) (n most : ℕ) → 1 ≤ n → 1 ≤ most → Holds seen (new limits) (record { base = empty; entries = []; limit = n; most_bytes = most })
+new_holds seen limits n most limit some = record {
   limit = limit;
+  most_bytes = some;
   within = omega arith;
   sound = new_sound limits;
   rising = new_rising limits;
@@ -41,8 +41,8 @@ new_holds outbox seen limits n room limit = record {
   stands = new_follows limits;
 }
 
-pub running : (outbox seen : ℕ) (σ : State) (j : JournalView) → Holds outbox seen σ j → IsRunning (record { state = σ; journal = j })
-running outbox seen σ j k = record {
+pub running : (seen : ℕ) (σ : State) (j : JournalView) → Holds seen σ j → IsRunning (record { state = σ; journal = j })
+running seen σ j k = record {
   past = k.past;
   whole = k.stands.tied;
   history = history_of k.past j.base j.entries σ k.stands;
@@ -55,15 +55,15 @@ running outbox seen σ j k = record {
 
 -- ---- the oldest entry is folded
 
-module _ (outbox seen : ℕ) (σ : State) where
-  pub fold_holds : (j : JournalView) → Holds outbox seen σ j → Holds outbox seen σ (folded σ j)
+module _ (seen : ℕ) (σ : State) where
+  pub fold_holds : (j : JournalView) → Holds seen σ j → Holds seen σ (folded σ j)
   fold_holds j k = by j.entries refl
     where
-      by : (es : List Entry) → j.entries ≡ es → Holds outbox seen σ (Rattle.tab_journal.specs.Journals.without_oldest (oldest_joined σ es) j.base es j.limit)
-      by [] e = record { room = k.room; limit = k.limit; within = let w = k.within in omega arith; sound = k.sound; rising = k.rising; places = k.places; past = k.past; stands = subst (λ (es : List Entry). FollowsLog k.past j.base es σ) e k.stands }
+      by : (es : List Entry) → j.entries ≡ es → Holds seen σ (Rattle.tab_journal.specs.Journals.without_oldest (oldest_joined σ es) j.base es j.limit j.most_bytes)
+      by [] e = record { limit = k.limit; most_bytes = k.most_bytes; within = let w = k.within in omega arith; sound = k.sound; rising = k.rising; places = k.places; past = k.past; stands = subst (λ (es : List Entry). FollowsLog k.past j.base es σ) e k.stands }
       by (x ∷ es) e = record {
-        room = k.room;
         limit = k.limit;
+        most_bytes = k.most_bytes;
         within = shorter x es (subst (λ (ys : List Entry). length ys ≤ j.limit) e k.within);
         sound = k.sound;
         rising = k.rising;
@@ -78,23 +78,24 @@ module _ (outbox seen : ℕ) (σ : State) where
   pub fold_shortens : (j : JournalView) → 0 < length j.entries → length (folded σ j).entries < length j.entries
   fold_shortens j some = by j.entries some
     where
-      by : (es : List Entry) → 0 < length es → length (JournalView.entries (Rattle.tab_journal.specs.Journals.without_oldest (oldest_joined σ es) j.base es j.limit)) < length es
+      by : (es : List Entry) → 0 < length es → length (JournalView.entries (Rattle.tab_journal.specs.Journals.without_oldest (oldest_joined σ es) j.base es j.limit j.most_bytes)) < length es
       by [] h = absurd (omega (arith, h))
       by (x ∷ es) h = omega arith
 
-  pub has_entry : (j : JournalView) → Holds outbox seen σ j → is_full j ≡ true → 0 < length j.entries
+  pub has_entry : (j : JournalView) → Holds seen σ j → is_full j ≡ true → 0 < length j.entries
   has_entry j k full = by j.entries full
     where
-      none : (n : ℕ) → 1 ≤ n → ((zero == n) || nat_le full_weight zero) ≡ true → ⊥
-      none n l h = by (zero == n) (nat_le full_weight zero) refl refl h
+      none : (n most : ℕ) → 1 ≤ n → 1 ≤ most → ((zero == n) || (nat_le full_weight zero || nat_le most zero)) ≡ true → ⊥
+      none n most l some h = by (zero == n) (nat_le full_weight zero) (nat_le most zero) refl refl refl h
         where
-          by : (x y : Bool) → (zero == n) ≡ x → nat_le full_weight zero ≡ y → (x || y) ≡ true → ⊥
-          by true y e f h = grind (arith, nat_tests)
-          by false true e f h = grind (arith, nat_tests)
-          by false false e f h = cc
+          by : (x y z : Bool) → (zero == n) ≡ x → nat_le full_weight zero ≡ y → nat_le most zero ≡ z → (x || (y || z)) ≡ true → ⊥
+          by true y z e f g h = grind (arith, nat_tests)
+          by false true z e f g h = grind (arith, nat_tests)
+          by false false true e f g h = grind (arith, nat_tests)
+          by false false false e f g h = cc
 
-      by : (es : List Entry) → ((length es == j.limit) || nat_le full_weight (weight_in es)) ≡ true → 0 < length es
-      by [] h = absurd (none j.limit k.limit h)
+      by : (es : List Entry) → ((length es == j.limit) || (nat_le full_weight (weight_in es) || nat_le j.most_bytes (bytes_in j.most_bytes es))) ≡ true → 0 < length es
+      by [] h = absurd (none j.limit j.most_bytes k.limit k.most_bytes h)
       by (x ∷ es) h = omega arith
 
 -- ---- a step
@@ -149,14 +150,14 @@ at_most_one : (o : Option Entry) → (entries o ≡ []) ⊎ (length (entries o) 
 at_most_one None = inl refl
 at_most_one (Some e) = inr refl
 
-module _ (outbox seen : ℕ) (σ : State) (j : JournalView) (k : Holds outbox seen σ j) (over : List ℕ) (n : ℕ) (a : Ask) (o : Outcome) (is : outcome σ over n a ≡ o) where
+module _ (seen : ℕ) (σ : State) (j : JournalView) (k : Holds seen σ j) (over : List ℕ) (n : ℕ) (a : Ask) (o : Outcome) (is : outcome σ over n a ≡ o) where
   pub next_stands : JoinsBook seen a → FollowsLog k.past j.base (j.entries ++ entries o.entry) o.state
   next_stands joins = subst (λ (x : Outcome). FollowsLog k.past j.base (j.entries ++ entries x.entry) x.state) is (step_follows k.past j.base j.entries σ over n a k.sound (joins_channel seen a joins) k.stands)
 
-  pub step_holds : JoinsBook seen a → IsSound o.state → (entries o.entry ≢ [] → length j.entries < j.limit) → Holds outbox seen o.state (with_entries j (entries o.entry))
+  pub step_holds : JoinsBook seen a → IsSound o.state → (entries o.entry ≢ [] → length j.entries < j.limit) → Holds seen o.state (with_entries j (entries o.entry))
   step_holds joins sound room = record {
-    room = k.room;
     limit = k.limit;
+    most_bytes = k.most_bytes;
     within = longer j.entries (entries o.entry) j.limit (at_most_one o.entry) k.within room;
     sound = sound;
     rising = subst (λ (x : Outcome). IsRising x.state) is (step_rising σ over n a k.sound k.rising);
@@ -173,10 +174,10 @@ module _ (outbox seen : ℕ) (σ : State) (j : JournalView) (k : Holds outbox se
 
 -- ---- who leaves is forgotten
 
-pub forget_holds : (outbox seen : ℕ) (σ : State) (j : JournalView) (n : ℕ) → (MayFollow σ n → ⊥) → Holds outbox seen σ j → Holds outbox seen σ (forget j n)
-forget_holds outbox seen σ j n gone k = record {
-  room = k.room;
+pub forget_holds : (seen : ℕ) (σ : State) (j : JournalView) (n : ℕ) → (MayFollow σ n → ⊥) → Holds seen σ j → Holds seen σ (forget j n)
+forget_holds seen σ j n gone k = record {
   limit = k.limit;
+  most_bytes = k.most_bytes;
   within = k.within;
   sound = k.sound;
   rising = k.rising;
@@ -258,8 +259,8 @@ may_fold_some old new n a may same h = record {
   journal = h.journal;
 }
 
-pub room_left : (outbox seen : ℕ) (σ : State) (j : JournalView) → Holds outbox seen σ j → is_full j ≡ false → length j.entries < j.limit
-room_left outbox seen σ j k h = let w = k.within in by (length j.entries == j.limit) (nat_le full_weight (weight_in j.entries)) refl h w
+pub room_left : (seen : ℕ) (σ : State) (j : JournalView) → Holds seen σ j → is_full j ≡ false → length j.entries < j.limit
+room_left seen σ j k h = let w = k.within in by (length j.entries == j.limit) (nat_le full_weight (weight_in j.entries) || nat_le j.most_bytes (bytes_in j.most_bytes j.entries)) refl h w
   where
     by : (a b : Bool) → (length j.entries == j.limit) ≡ a → (a || b) ≡ false → length j.entries ≤ j.limit → length j.entries < j.limit
     by true b e h w = cc
@@ -297,27 +298,27 @@ audits (Ok b) P p h = h.1 p
 audits (Err e) P p h = tt
 
 -- whether or not memory was refused
-pub fold_kept : {A E : Type 0} (r : Result A E) (outbox seen : ℕ) (σ : State) (j now : JournalView) (joined : Bool) → Holds outbox seen σ j → joined ≡ oldest_joined σ j.entries
-    → OnOk r (now ≡ fold_oldest joined j) → OnErr r (now ≡ j) → Holds outbox seen σ now
-fold_kept (Ok x) outbox seen σ j now joined k is ok err = subst (Holds outbox seen σ) (ap (λ b. fold_oldest b j) (sym is) ∙ sym ok) (fold_holds outbox seen σ j k)
-fold_kept (Err e) outbox seen σ j now joined k is ok err = subst (Holds outbox seen σ) (sym err) k
+pub fold_kept : {A E : Type 0} (r : Result A E) (seen : ℕ) (σ : State) (j now : JournalView) (joined : Bool) → Holds seen σ j → joined ≡ oldest_joined σ j.entries
+    → OnOk r (now ≡ fold_oldest joined j) → OnErr r (now ≡ j) → Holds seen σ now
+fold_kept (Ok x) seen σ j now joined k is ok err = subst (Holds seen σ) (ap (λ b. fold_oldest b j) (sym is) ∙ sym ok) (fold_holds seen σ j k)
+fold_kept (Err e) seen σ j now joined k is ok err = subst (Holds seen σ) (sym err) k
 
 -- a Take gives no entry
-pub take_holds : (outbox seen : ℕ) (σ : State) (j : JournalView) → Holds outbox seen σ j → (over : List ℕ) (n : ℕ) (o : Outcome) → outcome σ over n Take ≡ o → IsSound o.state → Holds outbox seen o.state j
-take_holds outbox seen σ j k over n o is sound =
+pub take_holds : (seen : ℕ) (σ : State) (j : JournalView) → Holds seen σ j → (over : List ℕ) (n : ℕ) (o : Outcome) → outcome σ over n Take ≡ o → IsSound o.state → Holds seen o.state j
+take_holds seen σ j k over n o is sound =
     let none : entries o.entry ≡ [] = ap (λ (x : Outcome). entries x.entry) (sym is) ∙ ap entries (enters_none σ over n Take (session_never σ n Take (λ b. refl))) in
-    subst (Holds outbox seen o.state) (ap (with_entries j) none ∙ (λ i. record j { entries = append-nil j.entries i }))
-    (step_holds outbox seen σ j k over n Take o is tt sound (λ some. absurd (some none)))
+    subst (Holds seen o.state) (ap (with_entries j) none ∙ (λ i. record j { entries = append-nil j.entries i }))
+    (step_holds seen σ j k over n Take o is tt sound (λ some. absurd (some none)))
 
 -- ---- a step that was made, with its entry and its leaving
 
-module _ (outbox seen : ℕ) (σ : State) (j : JournalView) (k : Holds outbox seen σ j) (over : List ℕ) (n : ℕ) (a : Ask) (o : Outcome) (is : outcome σ over n a ≡ o) (joins : JoinsBook seen a) where
+module _ (seen : ℕ) (σ : State) (j : JournalView) (k : Holds seen σ j) (over : List ℕ) (n : ℕ) (a : Ask) (o : Outcome) (is : outcome σ over n a ≡ o) (joins : JoinsBook seen a) where
   pub made_holds : IsSound o.state → (may_enter σ n a ≡ true → length j.entries < j.limit) → (entered now : JournalView) → entered ≡ with_entries j (entries o.entry)
-      → (b : Bool) → b ≡ leaves σ n a → now ≡ (if b then forget entered n else entered) → Holds outbox seen o.state now
-  made_holds sound room entered now e b l f = by b l (subst (Holds outbox seen o.state) (sym e) (step_holds outbox seen σ j k over n a o is joins sound (one_fits σ over n a o (length j.entries < j.limit) is room))) f
+      → (b : Bool) → b ≡ leaves σ n a → now ≡ (if b then forget entered n else entered) → Holds seen o.state now
+  made_holds sound room entered now e b l f = by b l (subst (Holds seen o.state) (sym e) (step_holds seen σ j k over n a o is joins sound (one_fits σ over n a o (length j.entries < j.limit) is room))) f
     where
-      by : (b : Bool) → b ≡ leaves σ n a → Holds outbox seen o.state entered → now ≡ (if b then forget entered n else entered) → Holds outbox seen o.state now
-      by true l h f = subst (Holds outbox seen o.state) (sym f) (forget_holds outbox seen o.state entered n (gone l) h)
+      by : (b : Bool) → b ≡ leaves σ n a → Holds seen o.state entered → now ≡ (if b then forget entered n else entered) → Holds seen o.state now
+      by true l h f = subst (Holds seen o.state) (sym f) (forget_holds seen o.state entered n (gone l) h)
         where
           gone : true ≡ leaves σ n a → MayFollow o.state n → ⊥
           gone l = of_leave a is l
@@ -328,7 +329,7 @@ module _ (outbox seen : ℕ) (σ : State) (j : JournalView) (k : Holds outbox se
               of_leave Retry q l = cc
               of_leave Take q l = cc
               of_leave (DoCommand c) q l = cc
-      by false l h f = subst (Holds outbox seen o.state) (sym f) h
+      by false l h f = subst (Holds seen o.state) (sym f) h
 
   pub made_steps : Allowed σ over n a → (entered now : JournalView) → entered ≡ with_entries j (entries o.entry) → (b : Bool) → b ≡ leaves σ n a → now ≡ (if b then forget entered n else entered)
       → StepsFrom σ j n a o.reply (record { state = o.state; journal = now })
@@ -338,7 +339,7 @@ module _ (outbox seen : ℕ) (σ : State) (j : JournalView) (k : Holds outbox se
     allowed = allowed;
     core = is;
     entered = f ∙ (λ i. if l i then forget (e i) n else e i);
-    sent = step_sent outbox seen σ j k over n a o is joins;
+    sent = step_sent seen σ j k over n a o is joins;
   }
 
 -- a session's own step joins no one
@@ -362,19 +363,19 @@ joins_made σ over n b sound room is = by (session_at σ.sessions n) refl
     by None e = λ i. join_if σ n b (above i) ((and_parts (nat_lt σ.greatest (2 ^ 32 - 1)) (nat_lt (length σ.sessions) σ.limits.sessions) room).1 i)
     by (Some s) e = let le = sound.joined n s e in absurd (omega (arith, le, is))
 
-pub join_holds : (outbox seen : ℕ) (σ : State) (j : JournalView) → Holds outbox seen σ j → (over : List ℕ) (n : ℕ) (b : Outbox) (o : Outcome) → outcome σ over n (Join b) ≡ o → JoinsBook seen (Join b) → IsSound o.state → Holds outbox seen o.state j
-join_holds outbox seen σ j k over n b o is new sound =
+pub join_holds : (seen : ℕ) (σ : State) (j : JournalView) → Holds seen σ j → (over : List ℕ) (n : ℕ) (b : Outbox) (o : Outcome) → outcome σ over n (Join b) ≡ o → JoinsBook seen (Join b) → IsSound o.state → Holds seen o.state j
+join_holds seen σ j k over n b o is new sound =
     let none : entries o.entry ≡ [] = ap (λ (x : Outcome). entries x.entry) (sym is) ∙ ap entries (enters_none σ over n (Join b) (session_never σ n (Join b) (λ c. refl))) in
-    subst (Holds outbox seen o.state) (ap (with_entries j) none ∙ (λ i. record j { entries = append-nil j.entries i }))
-    (step_holds outbox seen σ j k over n (Join b) o is new sound (λ some. absurd (some none)))
+    subst (Holds seen o.state) (ap (with_entries j) none ∙ (λ i. record j { entries = append-nil j.entries i }))
+    (step_holds seen σ j k over n (Join b) o is new sound (λ some. absurd (some none)))
 
 -- of a mailbox with a place that was not seen before
 pub new_post : (seen : ℕ) (b : Outbox) (m : ℕ) → b ≡ empty_outbox m → m < seen → JoinsBook seen (Join b)
 new_post seen b m is within = ((ap (λ (x : Outbox). x.capacity) is, ap (λ (x : Outbox). x.items) is), subst (λ (x : Option ℕ). IfSome x (λ place. place < seen)) (sym (ap (λ (x : Outbox). x.mailbox) is)) within)
 
 -- more of the register is seen
-pub holds_more : (outbox seen more : ℕ) (σ : State) (j : JournalView) → seen ≤ more → Holds outbox seen σ j → Holds outbox more σ j
-holds_more outbox seen more σ j le k = record { room = k.room; limit = k.limit; within = k.within; sound = k.sound; rising = k.rising; places = by σ.sessions k.places; past = k.past; stands = k.stands }
+pub holds_more : (seen more : ℕ) (σ : State) (j : JournalView) → seen ≤ more → Holds seen σ j → Holds more σ j
+holds_more seen more σ j le k = record { limit = k.limit; most_bytes = k.most_bytes; within = k.within; sound = k.sound; rising = k.rising; places = by σ.sessions k.places; past = k.past; stands = k.stands }
   where
     one : (m : Option ℕ) → IfSome m (λ place. place < seen) → IfSome m (λ place. place < more)
     one None h = h
@@ -394,8 +395,8 @@ pub keeps_own : (σ : State) → KeepsPosts σ σ
 keeps_own σ m s r g h = (cc, cc)
 
 -- the next number has joined with a mailbox whose place was not seen before
-pub joined_holds : (outbox seen more : ℕ) (σ τ : State) (j : JournalView) → Holds outbox seen σ j → has_free_seat σ ≡ true → (n : ℕ) → n ≡ σ.greatest + 1 → (b : Outbox) (m : ℕ) → b ≡ empty_outbox m → seen ≤ m → m < more
-    → τ ≡ with_new_session σ n b → IsSound τ → Holds outbox more τ j
-joined_holds outbox seen more σ τ j k room n is b m new le within made sound =
-    subst (λ (x : State). Holds outbox more x j) (sym made)
-    (join_holds outbox more σ j (holds_more outbox seen more σ j (omega (arith, le, within)) k) [] n b (step_without_entry (with_new_session σ n b) reply.Done) (joins_made σ [] n b k.sound room is) (new_post more b m new within) (subst IsSound made sound))
+pub joined_holds : (seen more : ℕ) (σ τ : State) (j : JournalView) → Holds seen σ j → has_free_seat σ ≡ true → (n : ℕ) → n ≡ σ.greatest + 1 → (b : Outbox) (m : ℕ) → b ≡ empty_outbox m → seen ≤ m → m < more
+    → τ ≡ with_new_session σ n b → IsSound τ → Holds more τ j
+joined_holds seen more σ τ j k room n is b m new le within made sound =
+    subst (λ (x : State). Holds more x j) (sym made)
+    (join_holds more σ j (holds_more seen more σ j (omega (arith, le, within)) k) [] n b (step_without_entry (with_new_session σ n b) reply.Done) (joins_made σ [] n b k.sound room is) (new_post more b m new within) (subst IsSound made sound))

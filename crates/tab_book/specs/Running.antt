@@ -46,9 +46,9 @@ abbrev pub HavePlaces : ℕ → State → Type 0
 HavePlaces seen σ = AllByRecursion (λ (s : Session). IfSome s.outbox.mailbox (λ place. place < seen)) σ.sessions
 
 -- what a book's parts have to do with each other; seen is how much of the register was seen, past what was folded into the base
-pub record Holds (outbox seen : ℕ) (σ : State) (journal : JournalView) : Type 0 where
-  pub room : 1 ≤ outbox
+pub record Holds (seen : ℕ) (σ : State) (journal : JournalView) : Type 0 where
   pub limit : 1 ≤ journal.limit
+  pub most_bytes : 1 ≤ journal.most_bytes
   pub within : length journal.entries ≤ journal.limit
   pub sound : IsSound σ
   pub rising : IsRising σ

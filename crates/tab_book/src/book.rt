@@ -4,7 +4,7 @@ ghost use Rattle.std.specs.Prelude.{◌≡◌, ◌≤◌, ◌+◌, [], IsTrue, I
 ghost use Rattle.tab_model.specs.History.{empty as empty_base};
 ghost use Rattle.tab_model.specs.State.{new as new_state, level_in, IsSound};
 ghost use Rattle.tab_core.specs.Ready.{AreReady};
-ghost use Rattle.tab_post.specs.Ends.{as_outbox, mailbox_of, received};
+ghost use Rattle.tab_post.specs.Ends.{as_outbox, capacity_in, mailbox_of, received, room_of};
 ghost use Rattle.tab_book.specs.Running.{IsRunning};
 ghost use Rattle.tab_book.specs.Transitions.{counted_levels};
 ghost use Rattle.tab_book.specs.Steps.{Joins, Refuses, has_free_seat as has_free_seat_of, with_new_session, KeepsPosts};
@@ -25,7 +25,6 @@ use tab_term::Atom;
 pub struct Book<H: Host> {
     host: H,
     pub(crate) alloc: Global,
-    outbox: usize,
     register: Register<Channel, H>,
     prefix: Prefix<Channel, H>,
     pub(crate) core: Core<ChannelPost<H>>,
@@ -44,36 +43,39 @@ impl<H: Host> Model for Book<H> {
 
     ghost view = { λ a. record { state = a.core; journal = a.journal } };
 
-    ghost invariant = { λ a. Holds a.outbox (length a.prefix) a.core a.journal };
+    ghost invariant = { λ a. Holds (length a.prefix) a.core a.journal };
 }
 
 impl<H: Host> Book<H> {
-    /// No tables and no sessions. The journal has at most as many entries as the limits say, 1 at least, and each mailbox
-    /// room for `outbox` items. It has 64 sessions at most.
+    /// No tables and no sessions. The journal has at most as many entries as the limits say, 1 at least, and is full at as
+    /// many bytes as they say. It has 64 sessions at most.
     pub fn new(
         host: H,
         alloc: Global,
         opened: Opened<Channel>,
         limits: Limits,
-        outbox: usize,
     ) -> Result<Book<H>, AllocError>
-        requires room { 1 ≤ outbox }
         requires sessions { limits.sessions ≤ 64 }
         requires journal { 1 ≤ limits.journal }
+        requires journal_bytes { 1 ≤ limits.journal_bytes }
         requires name { opened ≡ H.book }
         ensures { IfOk result
             (λ b. b ≡ record {
               state = new_state limits;
               journal =
-                  record { base = empty_base; entries = []; limit = limits.journal };
+                  record {
+                    base = empty_base;
+                    entries = [];
+                    limit = limits.journal;
+                    most_bytes = limits.journal_bytes;
+                  };
             }) }
     {
         let (register, prefix) = opened.named::<H>();
-        let journal = Journal::with_limit(alloc, limits.journal as usize)?;
+        let journal = Journal::with_limit(alloc, limits.journal as usize, limits.journal_bytes)?;
         Ok(Book {
             host,
             alloc,
-            outbox,
             register,
             prefix,
             core: Core::new(alloc, limits),
@@ -124,6 +126,7 @@ impl<H: Host> Book<H> {
     pub fn join(&mut self, mailbox: NewMailbox) -> Result<(u32, Inbox<H>), JoinFault>
         ensures ok { IfOk result
             (λ r. Joins self.old r.0 (mailbox_of r.1) (received r.1) self.new) }
+        ensures room { IfOk result (λ r. capacity_in r.1 ≡ room_of mailbox) }
         ensures err { IfErr result (λ e. Refuses self.old e self.new) }
         ensures posts { KeepsPosts self.old.state self.new.state }
         ensures running { IsRunning self.new }
@@ -137,6 +140,7 @@ impl<H: Host> Book<H> {
     fn seated(&mut self, mailbox: NewMailbox) -> Result<(u32, Inbox<H>), JoinFault>
         ensures ok { IfOk result
             (λ r. Joins self.old r.0 (mailbox_of r.1) (received r.1) self.new) }
+        ensures room { IfOk result (λ r. capacity_in r.1 ≡ room_of mailbox) }
         ensures err { IfErr result (λ e. Refuses self.old e self.new) }
         ensures posts { KeepsPosts self.old.state self.new.state }
     {
@@ -149,15 +153,6 @@ impl<H: Host> Book<H> {
             Ok(()) => Ok((session, inbox)),
             Err(_) => Err(JoinFault::NoMemory),
         }
-    }
-
-    /// The number of items that a mailbox has room for.
-    pub(crate) fn outbox(&self) -> usize
-        ensures { 1 ≤ result }
-    {
-        // Known of the book from here on is what its parts have to do with each other.
-        let _ = &self.core;
-        self.outbox
     }
 
     /// The back-off state of the session.

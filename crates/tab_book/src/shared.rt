@@ -4,7 +4,7 @@ ghost use Rattle.std.specs.Prelude.{◌≡◌, ◌≢◌, ◌≤◌, [], IsTrue,
 ghost use Rattle.tab_model.specs.declared.data.Reply.TheVariants as reply;
 ghost use Rattle.tab_model.specs.declared.ask.Ask.TheVariants.{Retry, Do as DoCommand};
 ghost use Rattle.tab_model.specs.Outcome.{is_abort};
-ghost use Rattle.tab_post.specs.Ends.{received};
+ghost use Rattle.tab_post.specs.Ends.{received, capacity_in};
 ghost use Rattle.tab_book.specs.Inboxes.{TakesIt};
 ghost use Rattle.tab_book.specs.Replies.{IsAnswer, IsReply, IsCallReply, Leaves};
 ghost use Rattle.tab_book.specs.Steps.{ask_of, is_never_refused};
@@ -68,10 +68,12 @@ pub struct Shared<H: Host> {
 }
 
 impl<H: Host> Shared<H> {
-    /// The book in its lock, with a bell for each session. It takes no memory.
-    pub fn new(book: Book<H>) -> Shared<H> {
+    /// The book in its lock, with a bell for each session. Each mailbox has room for `outbox` items. It takes no memory.
+    pub fn new(book: Book<H>, outbox: usize) -> Shared<H>
+        requires { 1 ≤ outbox }
+        ensures { result.outbox ≡ outbox }
+    {
         let alloc = book.alloc;
-        let outbox = book.outbox();
         Shared {
             book: Mutex::new(book),
             bells: Bells::new(),
@@ -81,7 +83,9 @@ impl<H: Host> Shared<H> {
     }
 
     /// The most items of a session's mailbox.
-    pub fn outbox(&self) -> usize {
+    pub fn outbox(&self) -> usize
+        ensures { result ≡ self.now.outbox }
+    {
         self.outbox
     }
 
@@ -111,6 +115,7 @@ impl<H: Host> Shared<H> {
     pub fn join(&self, host: &H) -> Result<(Seat, Inbox<H>), JoinFault>
         ensures number { IfOk result (λ r. 1 ≤ r.0) }
         ensures inbox { IfOk result (λ r. received r.1 ≡ []) }
+        ensures room { IfOk result (λ r. capacity_in r.1 ≡ self.now.outbox) }
     {
         let Ok(mailbox) = NewMailbox::new(self.alloc, self.outbox) else {
             return Err(JoinFault::NoMemory);

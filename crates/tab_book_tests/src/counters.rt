@@ -216,8 +216,9 @@ fn count<H: Host + Threads + Send + Sync>(
     requires opened { opened ≡ H.book }
     requires sessions { limits.sessions ≤ 64 }
     requires journal { 1 ≤ limits.journal }
+    requires journal_bytes { 1 ≤ limits.journal_bytes }
 {
-    let shared = Shared::new(Book::new(host, alloc, opened, limits, 64)?);
+    let shared = Shared::new(Book::new(host, alloc, opened, limits)?, 64);
     count_in(&host, alloc, &shared)
 }
 
@@ -297,6 +298,7 @@ fn count_named<J: Naming + Send + Sync, R: Threads + Wait + Copy + Send + Sync>(
     requires opened { opened ≡ J.book }
     requires sessions { limits.sessions ≤ 64 }
     requires journal { 1 ≤ limits.journal }
+    requires journal_bytes { 1 ≤ limits.journal_bytes }
 {
     count((rt, PhantomData::<J>), alloc, opened, limits)
 }

@@ -77,7 +77,7 @@ fn fold<H: Host>(host: H, alloc: Global, opened: Opened<Channel>) -> Result<Opti
         journal: 16,
         ..LIMITS
     };
-    let shared = Shared::new(Book::new(host, alloc, opened, limits, 2)?);
+    let shared = Shared::new(Book::new(host, alloc, opened, limits)?, 2);
     let (seat, _inbox) = shared.join(&host).map_err(|_| "join")?;
     let mut book = shared.hold(&host);
     Ok(fold_in(&mut book, alloc, seat.session())?)

@@ -125,7 +125,7 @@ fn is_told<H: Host>(
 fn overflow<H: Host>(host: H, alloc: Global, opened: Opened<Channel>) -> Result<bool, Fail>
     requires { opened ≡ H.book }
 {
-    let shared = Shared::new(Book::new(host, alloc, opened, LIMITS, 2)?);
+    let shared = Shared::new(Book::new(host, alloc, opened, LIMITS)?, 2);
     overflow_in(&host, alloc, &shared)
 }
 

@@ -120,8 +120,8 @@ fn differs<H: Host>(host: H, alloc: Global, opened: Opened<Channel>) -> Result<O
         journal: ENTRIES as u64,
         ..LIMITS
     };
-    let book = Book::new(host, alloc, opened, limits, 3).map_err(|_| "no book")?;
-    differs_in(&host, alloc, &Shared::new(book))
+    let book = Book::new(host, alloc, opened, limits).map_err(|_| "no book")?;
+    differs_in(&host, alloc, &Shared::new(book, 3))
 }
 
 fn differs_in<H: Host>(host: &H, alloc: Global, shared: &Shared<H>) -> Result<Option<usize>, Fail> {

@@ -88,7 +88,7 @@ fn make_steps<H: Host>(
 ) -> Result<Option<usize>, Fail>
     requires { opened ≡ H.book }
 {
-    let shared = Shared::new(Book::new(host, alloc, opened, LIMITS, 64)?);
+    let shared = Shared::new(Book::new(host, alloc, opened, LIMITS)?, 64);
     make_steps_in(&host, alloc, &shared)
 }
 

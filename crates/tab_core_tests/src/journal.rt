@@ -10,6 +10,9 @@ use tab_records::Iter;
 use tab_term::{Term, Terms};
 use tab_test_tools::atom;
 
+/// The bytes at which a journal is full in these tests.
+const MOST_BYTES: u32 = 32_000;
+
 /// A move of session 1 in table t, whose records are `{t, 1, V}`.
 enum Made {
     Write(i128),
@@ -74,12 +77,16 @@ static COMMITS: [(&[Made], bool, Option<i128>); 9] = [
     ),
 ];
 
-fn record(alloc: Global, value: i128) -> Result<Term, AllocError> {
+fn record_of(alloc: Global, value: Term) -> Result<Term, AllocError> {
     let mut row = Vec::with_capacity(alloc, 3)?;
     row.push_reserved(Term::Atom(atom(alloc, "t")?));
     row.push_reserved(Term::Int(1));
-    row.push_reserved(Term::Int(value));
+    row.push_reserved(value);
     Ok(Term::Tuple(Terms::from_vec(row)))
+}
+
+fn record(alloc: Global, value: i128) -> Result<Term, AllocError> {
+    record_of(alloc, Term::Int(value))
 }
 
 fn do_of(alloc: Global, operation: Operation) -> Result<Move, AllocError> {
@@ -151,7 +158,7 @@ fn commit(alloc: Global, all: &[Made]) -> Result<Entry, AllocError> {
 
 /// Table t is made, session 7 watches it, and there is a commit.
 fn filled(alloc: Global, moves: &[Made]) -> Result<Journal, AllocError> {
-    let mut journal = Journal::with_limit(alloc, 3)?;
+    let mut journal = Journal::with_limit(alloc, 3, MOST_BYTES)?;
     let options = Terms::from_vec(Vec::new(alloc));
     let create = Schema::Create(atom(alloc, "t")?, options);
     journal
@@ -286,19 +293,11 @@ fn push_commands(alloc: Global, journal: &mut Journal, count: usize) -> Result<(
 /// Returns whether it folds `wanted` entries, and refuses an entry before if it has to fold any.
 fn folds_until_room(
     alloc: Global,
-    commands: usize,
-    counts: &[usize],
+    mut journal: Journal,
     wanted: usize,
 ) -> Result<bool, AllocError> {
-    let mut journal = Journal::with_limit(alloc, 200)?;
-    push_commands(alloc, &mut journal, commands)?;
-    for &count in counts {
-        journal
-            .try_push(long_commit(alloc, count)?)
-            .or(Err(AllocError))?;
-    }
     let handed_back = journal.full() && journal.try_push(long_commit(alloc, 1)?).is_err();
-    let other = Journal::with_limit(alloc, 1)?;
+    let other = Journal::with_limit(alloc, 1, 1)?;
     let entries = journal.len();
     for _entry in 0..entries {
         if journal.full() && !journal.is_empty() {
@@ -309,10 +308,122 @@ fn folds_until_room(
     Ok(handed_back == (wanted > 0) && folds == wanted && !journal.full())
 }
 
+fn weight_folds(
+    alloc: Global,
+    commands: usize,
+    counts: &[usize],
+    wanted: usize,
+) -> Result<bool, AllocError> {
+    let mut journal = Journal::with_limit(alloc, 200, MOST_BYTES)?;
+    push_commands(alloc, &mut journal, commands)?;
+    for &count in counts {
+        journal
+            .try_push(long_commit(alloc, count)?)
+            .or(Err(AllocError))?;
+    }
+    folds_until_room(alloc, journal, wanted)
+}
+
 #[test]
 fn weight_fills_a_journal(rt: HostRuntime) {
     for (line, (commands, counts, wanted)) in WEIGHTS.iter().enumerate() {
-        let right = folds_until_room(rt.alloc(), *commands, counts, *wanted);
+        let right = weight_folds(rt.alloc(), *commands, counts, *wanted);
+        assert!(rt; right == Ok(true), "line {line}");
+    }
+}
+
+/// An entry with a list of so many empty lists.
+enum Long {
+    /// In the record that is written.
+    Row(usize),
+    /// In the record that a reply refuses.
+    Reply(usize),
+    /// The options of a table.
+    Options(usize),
+}
+
+/// Such entries, and the number of them that a journal folds until it is no longer full. A term has 32 bytes, and the
+/// text of the table's name one more.
+static BYTES: [(&[Long], usize); 9] = [
+    (&[Long::Row(995)], 0),
+    (&[Long::Row(996)], 1),
+    (&[Long::Reply(995)], 0),
+    (&[Long::Reply(996)], 1),
+    (&[Long::Options(999)], 0),
+    (&[Long::Options(1000)], 1),
+    (&[Long::Row(490), Long::Row(501)], 0),
+    (&[Long::Row(490), Long::Reply(502)], 1),
+    (&[Long::Row(1), Long::Row(5000)], 2),
+];
+
+fn empty_lists(alloc: Global, count: usize) -> Result<Terms, AllocError> {
+    let mut lists = Vec::new(alloc);
+    for _list in 0..count {
+        lists.push(Term::List(Terms::from_vec(Vec::new(alloc))))?;
+    }
+    Ok(Terms::from_vec(lists))
+}
+
+fn long_record(alloc: Global, count: usize) -> Result<Term, AllocError> {
+    record_of(alloc, Term::List(empty_lists(alloc, count)?))
+}
+
+/// Commit 1 of one move at most.
+fn commit_of(
+    alloc: Global,
+    step: Option<Move>,
+    reply: Option<LoggedReply>,
+) -> Result<Entry, AllocError> {
+    let mut moves = Vec::with_capacity(alloc, 1)?;
+    let mut told = Vec::with_capacity(alloc, 1)?;
+    if let Some(step) = step {
+        moves.push_reserved(step);
+    }
+    told.push_reserved(reply);
+    Ok(Entry::Committed {
+        number: 1,
+        session: 1,
+        age: 1,
+        moves: Moves { items: moves },
+        told: Replies { items: told },
+        overflowed: none(alloc),
+    })
+}
+
+fn long_entry(alloc: Global, long: &Long) -> Result<Entry, AllocError> {
+    match long {
+        Long::Row(count) => {
+            let write = Operation::Write(long_record(alloc, *count)?);
+            let step = do_of(alloc, write)?;
+            commit_of(alloc, Some(step), Some(logged(alloc, Reply::Done)?))
+        }
+        Long::Reply(count) => {
+            let refused = Reply::BadType(atom(alloc, "t")?, long_record(alloc, *count)?);
+            let reply = logged(alloc, refused)?;
+            commit_of(alloc, None, Some(reply))
+        }
+        Long::Options(count) => {
+            let options = empty_lists(alloc, *count)?;
+            let create = Schema::Create(atom(alloc, "t")?, options);
+            Ok(Entry::Changed(create, none(alloc)))
+        }
+    }
+}
+
+fn bytes_fold(alloc: Global, entries: &[Long], wanted: usize) -> Result<bool, AllocError> {
+    let mut journal = Journal::with_limit(alloc, 200, MOST_BYTES)?;
+    for long in entries {
+        journal
+            .try_push(long_entry(alloc, long)?)
+            .or(Err(AllocError))?;
+    }
+    folds_until_room(alloc, journal, wanted)
+}
+
+#[test]
+fn bytes_fill_a_journal(rt: HostRuntime) {
+    for (line, (entries, wanted)) in BYTES.iter().enumerate() {
+        let right = bytes_fold(rt.alloc(), entries, *wanted);
         assert!(rt; right == Ok(true), "line {line}");
     }
 }

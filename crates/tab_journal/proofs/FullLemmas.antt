@@ -4,7 +4,7 @@ use Rattle.std.specs.Prelude.{◌==◌, ◌||◌, nat_le}
 use Rattle.std.proofs.lemmas.Bool.Decides.{nat_tests}
 use Rattle.tab_model.specs.declared.data.Entry.{Entry}
 use Rattle.tab_model.specs.declared.data.Entry.TheVariants.{Committed, Changed, Subscribed, Unsubscribed}
-use Rattle.tab_journal.specs.Journals.{full_weight, weight_of, weight_in}
+use Rattle.tab_journal.specs.Journals.{full_weight, weight_of, weight_in, bytes_of, bytes_in}
 
 weight_behind : (es : List Entry) (e : Entry) → weight_in (es ++ e ∷ []) ≡ weight_in es + weight_of e
 weight_behind [] e = omega arith
@@ -20,20 +20,33 @@ bounded (Changed c over) = omega arith
 bounded (Subscribed s t l dump) = omega arith
 bounded (Unsubscribed s t) = omega arith
 
-pub one_more : (es : List Entry) (e : Entry) (limit m n : ℕ) → length es ≤ limit → m ≡ weight_in es → n ≡ weight_of e
-    → ((length es == limit) || nat_le full_weight (weight_in es)) ≡ false
-    → (length (es ++ e ∷ []) ≤ limit) × (m + n ≡ weight_in (es ++ e ∷ [])) × (m + n ≤ full_weight + full_weight)
-one_more es e limit m n within is counted vacant =
+bytes_behind : (most : ℕ) (es : List Entry) (e : Entry) → bytes_in most (es ++ e ∷ []) ≡ bytes_in most es + bytes_of most e
+bytes_behind most [] e = omega arith
+bytes_behind most (x ∷ es) e = let ih = bytes_behind most es e in omega (arith, ih)
+
+-- what a journal that isn't full has left
+left : (entries limit weight bytes most : ℕ) → ((entries == limit) || (nat_le full_weight weight || nat_le most bytes)) ≡ false → (entries ≡ limit → ⊥) × (weight < full_weight) × (bytes < most)
+left entries limit weight bytes most h = by (entries == limit) (nat_le full_weight weight) (nat_le most bytes) refl refl refl h
+  where
+    by : (x y z : Bool) → (entries == limit) ≡ x → nat_le full_weight weight ≡ y → nat_le most bytes ≡ z → (x || (y || z)) ≡ false
+        → (entries ≡ limit → ⊥) × (weight < full_weight) × (bytes < most)
+    by true y z e f g h = cc
+    by false true z e f g h = cc
+    by false false true e f g h = cc
+    by false false false e f g h = (grind (arith, nat_tests), grind (arith, nat_tests), grind (arith, nat_tests))
+
+pub one_more : (es : List Entry) (e : Entry) (limit most m n b c : ℕ) → length es ≤ limit → m ≡ weight_in es → n ≡ weight_of e → b ≡ bytes_in most es → c ≡ bytes_of most e
+    → ((length es == limit) || (nat_le full_weight (weight_in es) || nat_le most (bytes_in most es))) ≡ false
+    → (length (es ++ e ∷ []) ≤ limit) × (m + n ≡ weight_in (es ++ e ∷ [])) × (m + n ≤ full_weight + full_weight) × (b + c ≡ bytes_in most (es ++ e ∷ [])) × (b + c ≤ most + most)
+one_more es e limit most m n b c within is counted sum summed vacant =
     let lengths = length_behind es e in
     let weight = weight_behind es e in
+    let bytes = bytes_behind most es e in
     let few = bounded e in
-    let room = left (length es) (weight_in es) limit vacant in
-    (omega (arith, lengths, within, room.0), omega (arith, weight, is, counted), omega (arith, is, counted, few, room.1))
-  where
-    left : (a b c : ℕ) → ((a == c) || nat_le full_weight b) ≡ false → (a ≡ c → ⊥) × (b < full_weight)
-    left a b c h = by (a == c) (nat_le full_weight b) refl refl h
-      where
-        by : (x y : Bool) → (a == c) ≡ x → nat_le full_weight b ≡ y → (x || y) ≡ false → (a ≡ c → ⊥) × (b < full_weight)
-        by true y e f h = cc
-        by false true e f h = cc
-        by false false e f h = (grind (arith, nat_tests), grind (arith, nat_tests))
+    let room = left (length es) limit (weight_in es) (bytes_in most es) most vacant in (
+      omega (arith, lengths, within, room.0),
+      omega (arith, weight, is, counted),
+      omega (arith, is, counted, few, room.1),
+      omega (arith, bytes, sum, summed),
+      omega (arith, sum, summed, room.2),
+    )

@@ -1,3 +1,4 @@
 pub mod Survivors
+pub mod Bytes
 pub mod Journals
 pub mod Audits

@@ -8,6 +8,7 @@ ghost use Rattle.tab_journal.specs.Journals.{fold_oldest as fold_oldest_of, forg
 
 use crate::audit::is_history;
 use crate::base::Base;
+use crate::bytes::bytes_of;
 use circular_buffer::HeapCircularBuffer;
 use std::alloc::{AllocError, Global};
 use std::marker::Model;
@@ -18,54 +19,73 @@ use tab_tables::Catalog;
 /// and its reply, which is many times what a client has to send for it.
 const FULL_WEIGHT: usize = 131_072;
 
-/// The weight of a command on a table: as much as a transaction of most moves. So the step after one folds at most one
-/// command, since to fold it may build an index.
+/// The weight of a command on a table: as much as a transaction of most moves. So by weight the step after one folds at most
+/// one command, since to fold it may build an index. By bytes it may fold several.
 const COMMAND_WEIGHT: usize = 2_000;
 
-/// The entries that are not folded yet, oldest first, with their weight and their base.
+/// The entries that are not folded yet, oldest first, with their weight, their bytes and their base.
 #[derive(Drop)]
 pub struct Journal {
     base: Base,
     entries: HeapCircularBuffer<Entry>,
     weight: usize,
+    bytes: u64,
+    most_bytes: u32,
 }
 
 impl Model for Journal {
     ghost use Rattle.std.specs.Prelude.{◌≡◌, ◌≤◌, ◌+◌, length};
     ghost use Rattle.std.specs.Coded.{codes};
     ghost use Rattle.tab_term.specs.Code.{term_code, terms_code, pairs_code};
-    ghost use Rattle.tab_journal.specs.Journals.{JournalView, full_weight, weight_in};
+    ghost use Rattle.tab_journal.specs.Journals.{JournalView, full_weight, weight_in, bytes_in};
 
     ghost Value = { JournalView };
 
     ghost coded = { Prim.hlevel (codes, term_code, terms_code, pairs_code) };
 
     ghost view = { λ a.
-        record { base = a.base; entries = a.entries.items; limit = a.entries.capacity } };
+        record {
+          base = a.base;
+          entries = a.entries.items;
+          limit = a.entries.capacity;
+          most_bytes = a.most_bytes;
+        } };
 
     ghost invariant = { λ a. (length a.entries.items ≤ a.entries.capacity)
-        × (a.weight ≡ weight_in a.entries.items) × (a.weight ≤ full_weight + full_weight) };
+        × (a.weight ≡ weight_in a.entries.items) × (a.weight ≤ full_weight + full_weight)
+        × (a.bytes ≡ bytes_in a.most_bytes a.entries.items)
+        × (a.bytes ≤ a.most_bytes + a.most_bytes) };
 }
 
 impl Journal {
-    /// No entries yet, from no tables; at most `limit` of them at a time.
-    pub fn with_limit(alloc: Global, limit: usize) -> Result<Journal, AllocError>
-        requires { 1 ≤ limit }
+    /// No entries yet, from no tables; at most `limit` of them at a time, and none more at `most_bytes` or more.
+    pub fn with_limit(alloc: Global, limit: usize, most_bytes: u32) -> Result<Journal, AllocError>
+        requires limit { 1 ≤ limit }
+        requires bytes { 1 ≤ most_bytes }
         ensures { IfOk result
-            (λ journal. journal ≡ record { base = empty_base; entries = []; limit = limit }) }
+            (λ journal. journal ≡ record {
+              base = empty_base;
+              entries = [];
+              limit = limit;
+              most_bytes = most_bytes;
+            }) }
     {
         Ok(Journal {
             base: Base::empty(alloc),
             entries: HeapCircularBuffer::with_capacity(alloc, limit)?,
             weight: 0,
+            bytes: 0,
+            most_bytes,
         })
     }
 
-    /// Returns whether it has as many entries as its limit allows, or their weight makes it full.
+    /// Returns whether it has as many entries as its limit allows, or their weight or their bytes make it full.
     pub fn full(&self) -> bool
         ensures { result ≡ is_full self.now }
     {
-        self.entries.is_full() || self.weight >= FULL_WEIGHT
+        self.entries.is_full()
+            || self.weight >= FULL_WEIGHT
+            || self.bytes >= u64::from(self.most_bytes)
     }
 
     /// Appends an entry, or returns it. Takes no memory.
@@ -79,8 +99,10 @@ impl Journal {
             return Err(entry);
         }
         let weight = weight_of(&entry);
+        let bytes = bytes_of(&entry, self.most_bytes);
         self.entries.try_push_back(entry)?;
         self.weight += weight;
+        self.bytes += bytes;
         Ok(())
     }
 
@@ -137,6 +159,7 @@ impl Journal {
         }
         if let Some(entry) = self.entries.pop_front() {
             self.weight -= weight_of(&entry);
+            self.bytes -= bytes_of(&entry, self.most_bytes);
         }
         Ok(())
     }

@@ -7,6 +7,7 @@
 
 mod audit;
 mod base;
+mod bytes;
 mod journal;
 mod records;
 mod rerun;

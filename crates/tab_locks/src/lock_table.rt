@@ -1,4 +1,4 @@
-ghost use Rattle.std.specs.Prelude.{◌≡◌, [], ◌∷◌, ◌++◌, ◌==◌, filter, is_ok, if◌then◌else◌, OnOk, OnErr, IfOk, IfErr, IsFalse};
+ghost use Rattle.std.specs.Prelude.{◌≡◌, [], ◌∷◌, ◌++◌, ◌==◌, filter, is_ok, if◌then◌else◌, OnOk, OnErr, IfOk, IfErr, IsFalse, IsOk, IsSome};
 ghost use Rattle.std.specs.List.{list_any};
 ghost use Rattle.std.specs.Str.{bytes_eq};
 ghost use Rattle.tab_model.specs.Ages.{covers_own, without};
@@ -145,13 +145,13 @@ impl LockTable {
     }
 
     /// Grants a lock if one of its owner's serves for it, or no one's is in conflict with it. Mostly no one holds a
-    /// lock there, and then it is granted at once, with no question before. A conflict is found without memory that may
-    /// be refused.
+    /// lock there, and then it is granted at once, with no question before. A conflict takes no memory.
     pub fn ask(&mut self, age: u64, lock: Lock) -> Result<Asked, AllocError>
         ensures answer { IfOk result
             (λ a. conflict_in a ≡ in_the_way (age, lock_of lock) self.old) }
         ensures after { IfOk result (λ a. self.new ≡ after_asked (age, lock_of lock) self.old a) }
         ensures undo { IfOk result (λ a. a ≡ Held → without_last age self.new ≡ self.old) }
+        ensures conflict { IsSome (in_the_way (age, lock_of lock) self.old) → IsOk result }
         ensures back { IfOk result (GivesBack lock) }
         ensures err { OnErr result (self.new ≡ self.old) }
     {

@@ -24,7 +24,7 @@ abbrev pub rec : List ℕ → ℕ → List ℕ → PlainTerm
 rec t k v = tuple (record_of t k v)
 
 abbrev pub usual : Limits
-usual = record { sessions = 64; nesting = 16; operations = 1000; tables = 256; ages = 1000000; journal = 1024 }
+usual = record { sessions = 64; nesting = 16; operations = 1000; tables = 256; ages = 1000000; journal = 1024; journal_bytes = 67108864 }
 
 abbrev pub empty_outbox : ℕ → Outbox
 empty_outbox c = record { items = []; refusals = 0; capacity = Some c; mailbox = None }

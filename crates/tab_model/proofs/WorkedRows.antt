@@ -211,7 +211,7 @@ row_options = refl
 
 -- limits: three operations and child begins, two levels, one table, one age, two sessions
 abbrev small : Limits
-small = record { sessions = 2; nesting = 2; operations = 3; tables = 1; ages = 2; journal = 16 }
+small = record { sessions = 2; nesting = 2; operations = 3; tables = 1; ages = 2; journal = 16; journal_bytes = 67108864 }
 
 pub row_limits : replies_of (new small) (joins 1 ∷ joins 2 ∷ joins 3 ∷ creates 1 (codes "t") none ∷ creates 1 (codes "u") none ∷ begins 1 ∷ begins 1 ∷ begins 1 ∷ commits 1 ∷ reads 1 (codes "t") 1 ∷ reads 1 (codes "t") 2 ∷ begins 1 ∷ reads 1 (codes "t") 3 ∷ commits 1 ∷ begins 2 ∷ begins 1 ∷ [])
     ≡ reply.Done ∷ reply.Done ∷ reply.SystemLimit limit.Sessions ∷ reply.AtomicOk ∷ reply.SystemLimit limit.Tables ∷ reply.Tid 1 ∷ reply.Tid 1 ∷ reply.SystemLimit limit.Nesting ∷ reply.AtomicOk ∷ reply.Found none ∷ reply.Found none ∷ reply.SystemLimit limit.Operations ∷ reply.SystemLimit limit.Operations ∷ reply.Atomic 1 ∷ reply.Tid 2 ∷ reply.SystemLimit limit.Ages ∷ []

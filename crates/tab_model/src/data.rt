@@ -150,7 +150,7 @@ pub enum Limit {
 }
 
 /// The limits of a core: how many sessions may be joined at once, levels of a transaction, operations and child begins of
-/// one attempt, tables, outermost begins, and entries of the journal.
+/// one attempt, tables, outermost begins, entries of the journal, and bytes of the terms in their operations.
 #[derive(Clone, Copy, Debug, PartialEq, Eq)]
 pub struct Limits {
     pub sessions: u64,
@@ -159,6 +159,7 @@ pub struct Limits {
     pub tables: u64,
     pub ages: u64,
     pub journal: u64,
+    pub journal_bytes: u32,
 }
 
 impl Limits {
@@ -170,6 +171,7 @@ impl Limits {
         tables: 256,
         ages: 9_223_372_036_854_775_807,
         journal: 1024,
+        journal_bytes: 67_108_864,
     };
 }
 

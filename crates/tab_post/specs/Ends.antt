@@ -39,6 +39,10 @@ module _ {H : Type 0} {N : Ghosts H} where
   abbrev pub capacity_of : ChannelPost H N → ℕ
   capacity_of p = ruled_capacity (sends_on p.channel)
 
+  -- the same, of its receiving end
+  abbrev pub capacity_in : Inbox H N → ℕ
+  capacity_in i = ruled_capacity (receives_on i.channel)
+
   -- as a post, it shows all that was ever sent and which mailbox it is of, and no capacity decides what it refuses
   abbrev pub as_outbox : ChannelPost H N → Outbox
   as_outbox p = record { items = sent p; refusals = p.refusals; capacity = None; mailbox = Some p.place }
@@ -56,3 +60,4 @@ module _ {H : Type 0} {N : Ghosts H} where
     pub outbox : as_outbox p ≡ empty_outbox (mailbox_of i)
     pub taken : received i ≡ []
     pub room : capacity_of p ≡ capacity
+    pub inside : capacity_in i ≡ capacity

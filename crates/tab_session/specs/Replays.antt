@@ -12,7 +12,7 @@ use Rattle.tab_session.specs.declared.ended.Ended.TheVariants.{Damaged, Device, 
 
 -- the limits of a replay
 abbrev pub limits : Limits
-limits = record { sessions = 64; nesting = 16; operations = 1000; tables = 256; ages = 9223372036854775807; journal = 1024 }
+limits = record { sessions = 64; nesting = 16; operations = 1000; tables = 256; ages = 9223372036854775807; journal = 1024; journal_bytes = 67108864 }
 
 -- a core without tables and sessions
 abbrev pub fresh : State

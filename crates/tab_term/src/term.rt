@@ -1,5 +1,6 @@
 ghost use Rattle.std.specs.Prelude.{◌≡◌, min, length, IfOk, IfSome, IfNone, IsFalse};
 ghost use Rattle.tab_term.specs.Data.{atom, list, tuple, depth, depths, pair_depths, count, pair_count, is_atom, is_list, is_tuple};
+ghost use Rattle.tab_term.specs.Memory.{memory, memories, pair_memories};
 ghost use Rattle.tab_term.specs.View.{term, terms, pairs as pairs_of};
 
 use crate::atom::Atom;
@@ -115,6 +116,22 @@ impl Term {
         }
     }
 
+    /// How many bytes of memory the term takes: 32 for itself, with the bytes of an atom's text and of a binary, and the
+    /// same of its members. At most `u64::MAX`.
+    #[cycle(memory)]
+    pub fn memory(&self) -> u64
+        ensures { result ≡ min (memory (term self.now)) u64.MAX }
+    {
+        let inside = match self {
+            Term::Int(_) => 0,
+            Term::Atom(name) => name.as_str().len() as u64,
+            Term::Bin(bytes) => bytes.as_slice().len() as u64,
+            Term::Tuple(ts) | Term::List(ts) => ts.memory(),
+            Term::Map(ps) => ps.memory(),
+        };
+        inside.saturating_add(32)
+    }
+
     /// The name of an atom. Of any other term, which is dropped, None.
     pub fn into_atom(self) -> Option<Atom>
         ensures some { IfSome result (λ a. term self ≡ atom a) }
@@ -199,6 +216,17 @@ impl Terms {
         most
     }
 
+    #[cycle(memory)]
+    fn memory(&self) -> u64
+        ensures { result ≡ min (memories self.now) u64.MAX }
+    {
+        let mut sum: u64 = 0;
+        for t in &self.items {
+            sum = sum.saturating_add(t.memory());
+        }
+        sum
+    }
+
     /// The same elements, in memory of their own.
     #[cycle(copy)]
     pub fn try_clone(&self, alloc: Global) -> Result<Terms, AllocError>
@@ -245,6 +273,19 @@ impl Pairs {
             most = most.max(p.0.depth()).max(p.1.depth());
         }
         most
+    }
+
+    #[cycle(memory)]
+    fn memory(&self) -> u64
+        ensures { result ≡ min (pair_memories self.now) u64.MAX }
+    {
+        let mut sum: u64 = 0;
+        for p in &self.pairs {
+            sum = sum
+                .saturating_add(p.0.memory())
+                .saturating_add(p.1.memory());
+        }
+        sum
     }
 
     /// The same pairs, in memory of their own.

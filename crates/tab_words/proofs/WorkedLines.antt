@@ -96,6 +96,18 @@ pub long_journal : faults (serving ++ codes "--journal" ∷ codes "65537" ∷ []
 unfolding clap_on_literals
 long_journal = refl
 
+pub few_bytes : faults (serving ++ codes "--journal-bytes" ∷ codes "1048575" ∷ []) ≡ ValueValidation ∷ []
+unfolding clap_on_literals
+few_bytes = refl
+
+pub many_bytes : faults (serving ++ codes "--journal-bytes" ∷ codes "4294967296" ∷ []) ≡ ValueValidation ∷ []
+unfolding clap_on_literals
+many_bytes = refl
+
+pub most_bytes : faults (serving ++ codes "--journal-bytes" ∷ codes "4294967295" ∷ []) ≡ []
+unfolding clap_on_literals
+most_bytes = refl
+
 pub no_outbox : faults (codes "replay" ∷ codes "--outbox" ∷ codes "0" ∷ []) ≡ ValueValidation ∷ []
 unfolding clap_on_literals
 no_outbox = refl

@@ -49,6 +49,7 @@ pub record IsServiceOf (rows : List Row) (s : Service) : Type 0 where
   pub connections : IsNumberOf (codes "connections") 1 64 1 rows s.sizes.connections
   pub outbox : IsNumberOf (codes "outbox") 1 65536 64 rows s.sizes.outbox
   pub journal : IsNumberOf (codes "journal") 16 65536 1024 rows s.sizes.journal
+  pub journal_bytes : IsNumberOf (codes "journal-bytes") 1048576 4294967295 67108864 rows s.sizes.journal_bytes
   pub forever : IsFlagOf (codes "forever") rows s.forever
   pub batches : IsFlagOf (codes "batches") rows (is_batches s.delivery)
   pub idle : MayBeNumberOf (codes "idle") 1 86400 rows s.idle

@@ -83,6 +83,15 @@ fn journal<'a>(alloc: Global) -> Arg<'a>
     )
 }
 
+fn journal_bytes<'a>(alloc: Global) -> Arg<'a>
+    ensures rule { rule_of result ≡ number_rule (codes "journal-bytes") 1048576 4294967295 }
+    ensures own { IsFalse result.global }
+{
+    number_of(alloc, "journal-bytes", "BYTES", 1_048_576, 4_294_967_295).help(
+        "How many bytes of requests the journal holds at most, 1048576 to 4294967295; 67108864 where it is not given",
+    )
+}
+
 fn forever<'a>(alloc: Global) -> Arg<'a>
     ensures rule { rule_of result ≡ flag_rule (codes "forever") }
     ensures own { IsFalse result.global }
@@ -189,6 +198,7 @@ pub fn serve<'a>(alloc: Global) -> Result<Command<'a>, AllocError>
         .arg(connections(alloc))?
         .arg(outbox(alloc))?
         .arg(journal(alloc))?
+        .arg(journal_bytes(alloc))?
         .arg(forever(alloc))?
         .arg(batches(alloc))?
         .arg(idle(alloc))?

@@ -195,11 +195,20 @@ fn sizes(matches: &ArgMatches<'_>) -> Sizes
         (rows_of (found_of matches.now)) result.outbox }
     ensures journal { IsNumberOf (codes "journal") 16 65536 1024
         (rows_of (found_of matches.now)) result.journal }
+    ensures journal_bytes { IsNumberOf (codes "journal-bytes") 1048576 4294967295 67108864
+        (rows_of (found_of matches.now)) result.journal_bytes }
 {
     Sizes {
         connections: number(matches, "connections", 1, 64, 1),
         outbox: number(matches, "outbox", 1, 65_536, 64),
         journal: number(matches, "journal", 16, 65_536, 1024),
+        journal_bytes: number(
+            matches,
+            "journal-bytes",
+            1_048_576,
+            4_294_967_295,
+            67_108_864,
+        ),
     }
 }
 

@@ -22,15 +22,18 @@ pub enum Log {
     Full,
 }
 
-/// The sizes of a server: the most connections, the most items of a session's mailbox, the most entries of the journal.
+/// The sizes of a server: the most connections, the most items of a session's mailbox, the most entries of the journal, and
+/// the bytes of requests at which it is full.
 #[derive(Clone, Copy)]
 pub struct Sizes {
     pub connections: u32,
     pub outbox: u32,
     pub journal: u32,
+    pub journal_bytes: u32,
     ghost seats: { connections ≤ 64 },
     ghost outbox_room: { 1 ≤ outbox },
     ghost journal_room: { 1 ≤ journal },
+    ghost journal_bytes_room: { 1 ≤ journal_bytes },
 }
 
 /// The settings of a server.

@@ -12,11 +12,11 @@ sessions_of s = if s.forever then s.sizes.connections else 64
 
 -- the limits of a server's book; the words choose its sessions and its journal
 abbrev pub limits_of : Service → Limits
-limits_of s = record { sessions = sessions_of s; nesting = 16; operations = 1000; tables = 256; ages = 9223372036854775807; journal = s.sizes.journal }
+limits_of s = record { sessions = sessions_of s; nesting = 16; operations = 1000; tables = 256; ages = 9223372036854775807; journal = s.sizes.journal; journal_bytes = s.sizes.journal_bytes }
 
 -- a book with no table, no session and an empty journal
 abbrev pub new_book : Limits → Running
-new_book limits = record { state = new limits; journal = record { base = empty; entries = []; limit = limits.journal } }
+new_book limits = record { state = new limits; journal = record { base = empty; entries = []; limit = limits.journal; most_bytes = limits.journal_bytes } }
 
 -- the book that a server begins with
 abbrev pub book_of : Service → Running

@@ -4,7 +4,7 @@ ghost use Rattle.std.specs.Prelude.{◌≡◌, ◌≤◌, IfOk};
 ghost use Rattle.tabd.specs.Served.{book_of, limits_of, sessions_of};
 
 use std::alloc::{AllocError, Global};
-use tab_book::Book;
+use tab_book::{Book, Shared};
 use tab_model::Limits;
 use tab_post::{Channel, Host, Opened};
 use tab_words::Service;
@@ -19,13 +19,14 @@ pub fn opened_book<H: Host>(
     requires { opened ≡ H.book }
     ensures { IfOk result (λ b. b ≡ book_of service.now) }
 {
-    Book::new(
-        host,
-        alloc,
-        opened,
-        limits(service),
-        service.sizes.outbox as usize,
-    )
+    Book::new(host, alloc, opened, limits(service))
+}
+
+/// The book under its lock, and mailboxes of the size that the words set.
+pub fn shared_book<H: Host>(book: Book<H>, service: &Service) -> Shared<H>
+    ensures { result.outbox ≡ service.now.sizes.outbox }
+{
+    Shared::new(book, service.sizes.outbox as usize)
 }
 
 fn limits(service: &Service) -> Limits
@@ -35,6 +36,7 @@ fn limits(service: &Service) -> Limits
     Limits {
         sessions: u64::from(sessions(service)),
         journal: u64::from(service.sizes.journal),
+        journal_bytes: service.sizes.journal_bytes,
         ..Limits::STANDARD
     }
 }

@@ -6,7 +6,7 @@ use crate::Ended;
 use crate::address::{Place, listen_at, listen_on};
 use crate::draining::{Drained, serve_until_end};
 use crate::ending::End;
-use crate::opening::opened_book;
+use crate::opening::{opened_book, shared_book};
 use crate::slow::{Slow, serve_watched};
 use std::alloc::{AllocError, Global};
 use std::marker::PhantomData;
@@ -178,7 +178,7 @@ where
     let Ok(book) = opened_book(host, alloc, opened, &service) else {
         return End::Stopped(Ended::NoMemory);
     };
-    let shared = Shared::new(book);
+    let shared = shared_book(book, &service);
     match &listening.pages {
         Some(pages) => beside_pages(
             &host, alloc, listening, pages, &shared, service, output, gate,

@@ -50,7 +50,7 @@ fn ending_differs<H: Host>(
 ) -> Result<Option<usize>, Fail>
     requires { opened ≡ H.book }
 {
-    let shared = Shared::new(Book::new(host, alloc, opened, LIMITS, 64)?);
+    let shared = Shared::new(Book::new(host, alloc, opened, LIMITS)?, 64);
     ending_differs_in(&host, alloc, &shared)
 }
 

@@ -24,8 +24,8 @@ invariant_of-self-then-leaves g c =
     let a = ask_of c.args.step in
     let done = subst (λ (x : Ask). StepsCore c.self.inside.core n x c.in_ok-stepped.stepped c.step.new.self) (c.asked.ensures _) c.in_ok-stepped.ensures.done in
     let vacant = subst (λ (b : Running). may_enter b.state n a ≡ true → is_full b.journal ≡ false) (sym c.self.view_is) c.requires.room in
-    let room : may_enter c.self.inside.core n a ≡ true → length c.self.inside.journal.entries < c.self.inside.journal.limit = λ may. room_left c.self.inside.outbox (length c.self.inside.prefix) c.self.inside.core c.self.inside.journal c.self.invariant (vacant may) in
-    made_holds c.self.inside.outbox (length c.self.inside.prefix) c.self.inside.core c.self.inside.journal c.self.invariant done.0 n a _ done.2 (own_ask (length c.self.inside.prefix) c.args.step) c.step.ensures.sound room
+    let room : may_enter c.self.inside.core n a ≡ true → length c.self.inside.journal.entries < c.self.inside.journal.limit = λ may. room_left (length c.self.inside.prefix) c.self.inside.core c.self.inside.journal c.self.invariant (vacant may) in
+    made_holds (length c.self.inside.prefix) c.self.inside.core c.self.inside.journal c.self.invariant done.0 n a _ done.2 (own_ask (length c.self.inside.prefix) c.args.step) c.step.ensures.sound room
     c.entered-reply.new.journal c.forget.new.self c.entered-reply.ensures.journal true (c.if-leaves.ensures ∙ ap (λ (b : Running). leaves b.state n a) (sym c.self.view_is)) c.forget.ensures
 
 pub invariant_of-self-else-leaves : goal.invariant_of-self-else-leaves
@@ -34,8 +34,8 @@ invariant_of-self-else-leaves g c =
     let a = ask_of c.args.step in
     let done = subst (λ (x : Ask). StepsCore c.self.inside.core n x c.in_ok-stepped.stepped c.step.new.self) (c.asked.ensures _) c.in_ok-stepped.ensures.done in
     let vacant = subst (λ (b : Running). may_enter b.state n a ≡ true → is_full b.journal ≡ false) (sym c.self.view_is) c.requires.room in
-    let room : may_enter c.self.inside.core n a ≡ true → length c.self.inside.journal.entries < c.self.inside.journal.limit = λ may. room_left c.self.inside.outbox (length c.self.inside.prefix) c.self.inside.core c.self.inside.journal c.self.invariant (vacant may) in
-    made_holds c.self.inside.outbox (length c.self.inside.prefix) c.self.inside.core c.self.inside.journal c.self.invariant done.0 n a _ done.2 (own_ask (length c.self.inside.prefix) c.args.step) c.step.ensures.sound room
+    let room : may_enter c.self.inside.core n a ≡ true → length c.self.inside.journal.entries < c.self.inside.journal.limit = λ may. room_left (length c.self.inside.prefix) c.self.inside.core c.self.inside.journal c.self.invariant (vacant may) in
+    made_holds (length c.self.inside.prefix) c.self.inside.core c.self.inside.journal c.self.invariant done.0 n a _ done.2 (own_ask (length c.self.inside.prefix) c.args.step) c.step.ensures.sound room
     c.entered-reply.new.journal c.entered-reply.new.journal c.entered-reply.ensures.journal false (c.if-leaves.ensures ∙ ap (λ (b : Running). leaves b.state n a) (sym c.self.view_is)) refl
 
 pub returns-clause-done : goal.returns-clause-done
@@ -45,7 +45,7 @@ returns-clause-done g c =
     let σ = c.self.inside.core in
     let j = c.self.inside.journal in
     let done = subst (λ (x : Ask). StepsCore c.self.inside.core n x c.in_ok-stepped.stepped c.step.new.self) (c.asked.ensures _) c.in_ok-stepped.ensures.done in
-    let made = made_steps c.self.inside.outbox (length c.self.inside.prefix) σ j c.self.invariant done.0 n a _ done.2 (own_ask (length c.self.inside.prefix) c.args.step) done.1 c.entered-reply.new.journal in
+    let made = made_steps (length c.self.inside.prefix) σ j c.self.invariant done.0 n a _ done.2 (own_ask (length c.self.inside.prefix) c.args.step) done.1 c.entered-reply.new.journal in
     subst (λ (b : Running). StepsFrom b.state b.journal n a c.entered-reply.result c.if-leaves.self) c.self.view_is
     (subst (λ (r : Reply). StepsFrom σ j n a r c.if-leaves.self) (sym c.entered-reply.ensures.reply)
     (elim c.if-leaves.branch [
@@ -61,7 +61,7 @@ returns-clause-posts g c =
     let a = ask_of c.args.step in
     let σ = c.self.inside.core in
     let done = subst (λ (x : Ask). StepsCore c.self.inside.core n x c.in_ok-stepped.stepped c.step.new.self) (c.asked.ensures _) c.in_ok-stepped.ensures.done in
-    let posts : KeepsPosts σ c.step.new.self = step_posts c.self.inside.outbox (length c.self.inside.prefix) σ c.self.inside.journal c.self.invariant done.0 n a _ done.2 in
+    let posts : KeepsPosts σ c.step.new.self = step_posts (length c.self.inside.prefix) σ c.self.inside.journal c.self.invariant done.0 n a _ done.2 in
     subst (λ (b : Running). KeepsPosts b.state c.if-leaves.self.state) c.self.view_is
     (elim c.if-leaves.branch [
       | then-leaves w ↦ subst (λ (x : Running). KeepsPosts σ x.state) (sym w.self-is) posts

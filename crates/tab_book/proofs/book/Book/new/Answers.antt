@@ -8,5 +8,5 @@ use Rattle.tab_book.proofs.book.Book.new.Goals as goal
 pub invariant_of-result : goal.invariant_of-result
 invariant_of-result g c =
     let seen = length c.named-register.result.1 in
-    subst (λ (σ : State). Holds c.args.outbox seen σ c.in_ok-journal.journal) (sym c.new.ensures)
-    (subst (λ (j : JournalView). Holds c.args.outbox seen (new c.args.limits) j) (sym c.in_ok-journal.ensures) (new_holds c.args.outbox seen c.args.limits c.args.limits.journal c.requires.room c.requires.journal))
+    subst (λ (σ : State). Holds seen σ c.in_ok-journal.journal) (sym c.new.ensures)
+    (subst (λ (j : JournalView). Holds seen (new c.args.limits) j) (sym c.in_ok-journal.ensures) (new_holds seen c.args.limits c.args.limits.journal c.args.limits.journal_bytes c.requires.journal c.requires.journal_bytes))

@@ -23,11 +23,11 @@ invariant_of-self g c =
     let j = c.self.inside.journal in
     let fresh = c.enter-post.ensures.fresh in
     elim c.match-seat.branch [
-      | in-Ok w ↦ joined_holds c.self.inside.outbox seen more σ c.seat.new.core j c.self.invariant
+      | in-Ok w ↦ joined_holds seen more σ c.seat.new.core j c.self.invariant
           (ap (λ (b : Running). has_free_seat b.state) c.self.view_is ∙ sym c.has_free_seat.ensures ∙ c.if-not-has_free_seat.false) (c.greatest-session.result + 1) (ap (λ k. k + 1) c.greatest-session.ensures)
           (as_outbox c.enter-post.result.0) (mailbox_of c.enter-post.result.1) c.enter-post.ensures.new.outbox fresh.0 fresh.1 w.in-Ok.ensures.ok c.seat.ensures.sound
-      | in-Err w ↦ subst (λ (x : State). Holds c.self.inside.outbox more x j) (sym w.in-Err.ensures.err)
-          (holds_more c.self.inside.outbox seen more σ j (omega (arith, fresh.0, fresh.1)) c.self.invariant)
+      | in-Err w ↦ subst (λ (x : State). Holds more x j) (sym w.in-Err.ensures.err)
+          (holds_more seen more σ j (omega (arith, fresh.0, fresh.1)) c.self.invariant)
     ]
 
 pub returns-clause-ok : goal.returns-clause-ok

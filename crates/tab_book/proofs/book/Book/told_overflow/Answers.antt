@@ -22,7 +22,7 @@ returns-in_default-clause-posts g c = keeps_own c.args.self.now.state
 pub invariant_of-self : goal.invariant_of-self
 invariant_of-self g c =
     let done = c.take.ensures.done in
-    take_holds c.self.inside.outbox (length c.self.inside.prefix) c.self.inside.core c.self.inside.journal c.self.invariant done.0 c.args.session _ done.2 c.take.ensures.sound
+    take_holds (length c.self.inside.prefix) c.self.inside.core c.self.inside.journal c.self.invariant done.0 c.args.session _ done.2 c.take.ensures.sound
 
 pub returns : goal.returns
 returns g c =
@@ -33,5 +33,5 @@ returns g c =
       told = subst (λ (b : Running). (s : Session) × (session_at b.state.sessions n ≡ Some s) × TellsOverflow b n s.overflow (Overflow c.in-Some.number) (record { state = c.take.new.self; journal = c.self.inside.journal })) c.self.view_is
           (tells c.self.inside.core c.self.inside.journal n there.0 there.1 c.overflow.result c.overflow.ensures done.0 _ c.self.invariant.stands.channels done.2 c.in-Some.number c.in-Some.is);
       posts = subst (λ (b : Running). KeepsPosts b.state c.take.new.self) c.self.view_is
-          (step_posts c.self.inside.outbox (length c.self.inside.prefix) c.self.inside.core c.self.inside.journal c.self.invariant done.0 n Take _ done.2);
+          (step_posts (length c.self.inside.prefix) c.self.inside.core c.self.inside.journal c.self.invariant done.0 n Take _ done.2);
     }
