@@ -23,9 +23,9 @@ use Rattle.tab_server.specs.contracts.connection.Connection as connection
 use Rattle.tab_server.specs.contracts.connection.Streams as streams
 use Rattle.tab_server.specs.contracts.dispatcher.Dispatcher as dispatcher
 use Rattle.tab_server.specs.contracts.line.Line as line
-use Rattle.tab_server.specs.contracts.line.Mail as mail
+use Rattle.tab_server.specs.contracts.mail.Mail as mail
 use Rattle.tab_server.specs.contracts.settings.Settings as settings
-use Rattle.tab_server.proofs.line.Turn.TheSendSync as turn_marks
+use Rattle.tab_server.proofs.mail.Turn.TheSendSync as turn_marks
 
 pub seat-send : IsSend seat.the_row
 seat-send = search (sendable, declared_send, as_row_send) depth 20

@@ -1,2 +1,4 @@
+pub mod Answering
 pub mod Crossing
+pub mod Gathering
 pub mod Serving

@@ -1,1 +1,5 @@
+pub mod Gathered
+pub mod Sending
 pub mod Serving
+pub mod Sent
+pub mod Laws

@@ -195,6 +195,7 @@ fn serve_connection<H: Host + Threads + Send + Sync, G: Gate + Notes + Sync>(
     let handle = streams.take_handle();
     let Ok((connection, reader)) = Connection::new(alloc, streams, *seat, inbox) else {
         shared.leave(host, seat);
+        gate.note(Note::NoMemory);
         return;
     };
     gate.connected(seat.session(), &connection.stream, handle);
@@ -233,6 +234,7 @@ fn serve_streams<H: Host + Threads + Send + Sync, G: Gate + Notes + Sync>(
     thread::scope(thread::scope_env(), host, |scope| {
         let watching = scope.spawn(move || connection.watch_for(host, alloc, shared, seat));
         if watching.is_err() {
+            gate.note(Note::NoThread);
             return Ending::Over;
         }
         let sending = scope.spawn(move || {
@@ -240,6 +242,7 @@ fn serve_streams<H: Host + Threads + Send + Sync, G: Gate + Notes + Sync>(
         });
         if sending.is_err() {
             connection.watch.stop(host);
+            gate.note(Note::NoThread);
             return Ending::Over;
         }
         serve_session(

@@ -1,22 +1,20 @@
 //! Replies that are kept, and written at once.
 
-ghost use Rattle.std.specs.Prelude.{◌≡◌, OnOk};
+ghost use Rattle.std.specs.Prelude.{◌≡◌, OnOk, [], None};
+ghost use Rattle.tab_server.specs.Sending.{Goes, reply_frame};
 
 use crate::gate::{Count, Gate};
+use crate::outlet::Outlet;
 use std::alloc::Global;
-use std::io::Write;
-use std::sync::Wait;
 use tab_etf::{Broken, EncodeFault, FrameFault};
 use tab_model::Reply;
-use tab_proto::{append_reply_within, write_reply};
-use tab_sink::FrameSink;
+use tab_proto::append_reply_within;
 use tab_sink::kept::{KEPT, LONG, empty};
-use tab_sink::pieces::send_pieces;
 
 /// Replies of a session, in order: requests that came in one piece are answered in one write.
 #[derive(Drop)]
-pub struct Answers<'a, W: Write, G: Gate> {
-    sink: &'a FrameSink<W>,
+pub struct Answers<'a, O: Outlet, G: Gate> {
+    outlet: O,
     gate: &'a G,
     session: u32,
     frames: Vec<u8>,
@@ -47,16 +45,13 @@ impl From<FrameFault> for Unwritten {
     }
 }
 
-impl<'a, W: Write, G: Gate> Answers<'a, W, G> {
+impl<'a, O: Outlet, G: Gate> Answers<'a, O, G> {
     /// None yet.
-    pub fn new(
-        alloc: Global,
-        sink: &'a FrameSink<W>,
-        gate: &'a G,
-        session: u32,
-    ) -> Answers<'a, W, G> {
+    pub fn new(alloc: Global, outlet: O, gate: &'a G, session: u32) -> Answers<'a, O, G>
+        ensures { (result.outlet ≡ outlet) × (result.frames.items ≡ []) }
+    {
         Answers {
-            sink,
+            outlet,
             gate,
             session,
             frames: Vec::new(alloc),
@@ -77,37 +72,45 @@ impl<'a, W: Write, G: Gate> Answers<'a, W, G> {
     }
 
     /// Keeps the reply to it, until some are written at once.
-    pub fn keep<R: Wait>(&mut self, rt: &R, reply: &Reply) -> Result<(), Unwritten> {
+    pub fn keep(&mut self, reply: &Reply) -> Result<(), Unwritten>
+        ensures { OnOk result (Goes O.sent O.broken self.old.outlet self.old.frames.items
+            self.new.outlet self.new.frames.items (reply_frame reply.now)) }
+    {
         // If there is no memory to keep it in, it may still go in pieces.
         let is_kept = append_reply_within(None, reply, LONG, &mut self.frames).unwrap_or(false);
         if !is_kept {
-            self.send_long(rt, reply)?;
+            self.send_long(reply)?;
         }
         self.answered = self.answered.saturating_add(1);
         if self.frames.len() >= KEPT {
-            self.write(rt)?;
+            self.write()?;
         }
         Ok(())
     }
 
     /// Sends a reply after those that are kept, piece by piece.
-    fn send_long<R: Wait>(&mut self, rt: &R, reply: &Reply) -> Result<(), Unwritten> {
+    fn send_long(&mut self, reply: &Reply) -> Result<(), Unwritten>
+        ensures { OnOk result (Goes O.sent O.broken self.old.outlet self.old.frames.items
+            self.new.outlet self.new.frames.items (reply_frame reply.now)) }
+    {
         // The memory of the frame that was not kept would stay for as long as the reply is on its way.
         self.frames.shrink_to(3 * KEPT);
-        let written = send_pieces(rt, self.sink, &mut self.frames, |pieces| {
-            write_reply(pieces, None, reply)
-        })?;
+        let written = self.outlet.send_long(&mut self.frames, reply)?;
         self.gate.count_of(self.session, Count::Written, written);
+        empty(&mut self.frames);
         Ok(())
     }
 
     /// Writes those that are kept. It reports to the gate each call that was answered, also one whose reply was sent
     /// before.
-    pub fn write<R: Wait>(&mut self, rt: &R) -> Result<(), Broken>
-        ensures { OnOk result (self.new.written ≡ self.new.answered) }
+    pub fn write(&mut self) -> Result<(), Broken>
+        ensures told { OnOk result (self.new.written ≡ self.new.answered) }
+        ensures whole { OnOk result (self.new.frames.items ≡ []) }
+        ensures bytes { Goes O.sent O.broken self.old.outlet self.old.frames.items
+            self.new.outlet self.new.frames.items [] }
     {
         if !self.frames.is_empty() {
-            self.sink.send(rt, &self.frames)?;
+            self.outlet.send(&self.frames)?;
             self.gate
                 .count_of(self.session, Count::Written, self.frames.len() as u64);
             empty(&mut self.frames);

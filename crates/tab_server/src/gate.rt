@@ -37,7 +37,7 @@ pub enum Count {
     /// Transactions that ended without a commit.
     Aborts,
     Restarts,
-    /// Operations that waited for a lock.
+    /// Operations that have waited for a lock.
     Waits,
     /// One-shots whose restarts were used up.
     GivenUp,
@@ -59,6 +59,12 @@ pub trait Counts {
 
     /// The session asks to subscribe.
     fn subscribe(&self, session: u32);
+
+    /// The session's operation waits for a lock.
+    fn wait(&self, session: u32);
+
+    /// The session's operation waits no more.
+    fn go_on(&self, session: u32);
 }
 
 /// A receiver of each call of each session: before it is made, and after its reply is written. A test blocks calls by
@@ -100,6 +106,10 @@ impl Counts for Open {
     fn end(&self, _session: u32) {}
 
     fn subscribe(&self, _session: u32) {}
+
+    fn wait(&self, _session: u32) {}
+
+    fn go_on(&self, _session: u32) {}
 }
 
 impl Gate for Open {

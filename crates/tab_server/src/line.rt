@@ -2,44 +2,18 @@
 
 use crate::answers::Unwritten;
 use crate::dispatcher::Dispatcher;
-use crate::events::{Events, event_loop, is_long};
+use crate::events::{Events, event_loop};
 use crate::gate::{Count, Notes};
+use crate::mail::{Mail, Progress, Turn};
 use std::alloc::Global;
 use std::mem;
 use std::net::TcpStream;
 use std::sync::atomic::{AtomicBool, Ordering};
 use std::sync::{Condvar, Mutex, Wait};
 use tab_book::{Seat, Shared};
-use tab_model::SharedItem;
 use tab_post::{Host, Inbox};
-use tab_proto::{Delivery, append_item};
+use tab_proto::Delivery;
 use tab_sink::FrameSink;
-use tab_sink::kept::KEPT;
-
-/// The thread that sends a connection's events.
-#[derive(Clone, Copy, Debug, PartialEq, Eq)]
-enum Turn {
-    /// The dispatcher, which never blocks.
-    Dispatcher,
-    /// The connection's own thread, which may block.
-    Own,
-    /// The connection's own thread for the last time, since the session has left.
-    Last,
-}
-
-/// The events that wait to be sent on a connection.
-#[derive(Drop)]
-struct Mail<H: Host> {
-    inbox: Inbox<H>,
-    /// The frames of items from the inbox, and the item after them if it is too long to be kept whole.
-    frames: Vec<u8>,
-    long: Option<SharedItem>,
-    /// The number of items that were taken since the inbox was found empty.
-    taken: usize,
-    turn: Turn,
-    /// True if memory was refused for an event.
-    failed: bool,
-}
 
 /// The writing end of a connection. The dispatcher sends its events as long as the connection takes them without
 /// blocking. The connection's own thread sends if the connection is full or an item is long. It also asks the book for an
@@ -68,14 +42,7 @@ impl<H: Host> Line<H> {
             sink: FrameSink::new(writer),
             seat,
             delivery,
-            mail: Mutex::new(Mail {
-                inbox,
-                frames: Vec::new(alloc),
-                long: None,
-                taken: 0,
-                turn: Turn::Dispatcher,
-                failed: false,
-            }),
+            mail: Mutex::new(Mail::new(alloc, inbox)),
             changed: Condvar::new(),
             watches: AtomicBool::new(false),
         }
@@ -215,48 +182,5 @@ impl<H: Host> Line<H> {
             events.keep(item.item())?;
         }
         events.send_waiting(taken)
-    }
-}
-
-/// The result of taking or sending a connection's events without blocking.
-#[derive(Clone, Copy, Debug, PartialEq, Eq)]
-enum Progress {
-    /// The inbox was found empty.
-    Done,
-    /// The inbox may have more items.
-    More,
-    /// The connection's own thread has to go on.
-    Stuck,
-}
-
-impl<H: Host> Mail<H> {
-    /// Takes items from the inbox and keeps their frames, until there are enough to send, or the inbox is empty, or the
-    /// connection's own thread has to go on.
-    fn gather<N: Notes>(
-        &mut self,
-        host: &H,
-        session: u32,
-        delivery: Delivery,
-        notes: &N,
-    ) -> Progress {
-        for _ in host.forever() {
-            if self.frames.len() >= KEPT {
-                return Progress::More;
-            }
-            let Some(item) = self.inbox.try_receive() else {
-                return Progress::Done;
-            };
-            self.taken = self.taken.saturating_add(1);
-            if is_long(item.item()) {
-                self.long = Some(item);
-                return Progress::Stuck;
-            }
-            if append_item(item.item(), delivery, &mut self.frames).is_err() {
-                self.failed = true;
-                return Progress::Stuck;
-            }
-            notes.count_of(session, Count::Items, 1);
-        }
-        unreachable!()
     }
 }

@@ -1,6 +1,10 @@
 //! The requests of one connection.
 
-ghost use Rattle.std.specs.Prelude.{◌≡◌, ◌≤◌, MatchOption, length};
+ghost use Rattle.std.specs.Prelude.{◌≡◌, ◌≤◌, [], ◌∷◌, List, Option, OnOk, MatchOption, length};
+ghost use Rattle.tab_etf.specs.Frames.{contents, payload_of};
+ghost use Rattle.tab_model.specs.declared.data.Reply.{Reply as ReplyOf};
+ghost use Rattle.tab_server.specs.Sending.{reply_frames};
+ghost use Rattle.tab_server.specs.Sent.{AreAnswered, IsAnswered, Sends};
 ghost use Rattle.tab_server.specs.Serving.{IsPayloadReply, IsEnded};
 
 use crate::answers::{Answers, Unwritten};
@@ -8,6 +12,7 @@ use crate::connection::Connection;
 use crate::dispatcher::Dispatcher;
 use crate::gate::{Count, Gate};
 use crate::line::Line;
+use crate::outlet::{Outlet, SharedSink};
 use crate::place::Place;
 use crate::puts::Puts;
 use crate::silence::Silence;
@@ -16,7 +21,6 @@ use crate::transactions::Transactions;
 use crate::watch::Watch;
 use std::alloc::Global;
 use std::io::{ErrorKind, Read};
-use std::net::TcpStream;
 use tab_book::{Held, Seat, Shared};
 use tab_etf::{EtfFault, Frame, FrameFault, Splitter, decode};
 use tab_model::{Command, Reply, SharedReply};
@@ -31,7 +35,7 @@ const PIECE: usize = 65_536;
 /// step until it waits, backs off or is answered. Before it waits or backs off, the answers are written. If the wait is
 /// longer than one sleep the stream is watched.
 #[derive(Drop)]
-pub struct Requests<'a, H: Host, G: Gate> {
+pub struct Requests<'a, H: Host, O: Outlet, G: Gate> {
     pub alloc: Global,
     pub host: &'a H,
     pub shared: &'a Shared<H>,
@@ -41,7 +45,7 @@ pub struct Requests<'a, H: Host, G: Gate> {
     pub line: &'a Line<H>,
     /// The thread that sends the events of all connections.
     pub dispatcher: &'a Dispatcher<H>,
-    pub answers: Answers<'a, TcpStream, G>,
+    pub answers: Answers<'a, O, G>,
     pub held: Held<'a, H>,
     pub transactions: Transactions,
     pub puts: Puts,
@@ -78,6 +82,7 @@ pub fn serve_session<H: Host, R: Read, G: Gate>(
     reader: &mut R,
     gate: &G,
 ) -> Ending {
+    let outlet = SharedSink::new(host, &connection.line.sink);
     let mut requests = Requests {
         alloc,
         host,
@@ -86,7 +91,7 @@ pub fn serve_session<H: Host, R: Read, G: Gate>(
         watch: &connection.watch,
         line: &connection.line,
         dispatcher,
-        answers: Answers::new(alloc, &connection.line.sink, gate, seat.session()),
+        answers: Answers::new(alloc, outlet, gate, seat.session()),
         held: Held::new(host, shared),
         transactions: Transactions::new(seat.session()),
         puts: Puts::new(),
@@ -103,7 +108,7 @@ pub fn serve_session<H: Host, R: Read, G: Gate>(
     ending
 }
 
-impl<'a, H: Host, G: Gate> Requests<'a, H, G> {
+impl<'a, H: Host, O: Outlet, G: Gate> Requests<'a, H, O, G> {
     /// Serves all requests, after which no transaction is open.
     fn all<R: Read>(&mut self, reader: &mut R) -> Ending {
         match self.stream(reader) {
@@ -204,8 +209,8 @@ impl<'a, H: Host, G: Gate> Requests<'a, H, G> {
     fn too_long(&mut self, splitter: &Splitter) -> Result<(), Unwritten> {
         self.frames(splitter.before_fault())?;
         self.answers.begin();
-        self.answers.keep(self.host, &Reply::BadTerm)?;
-        self.answers.write(self.host)?;
+        self.answers.keep(&Reply::BadTerm)?;
+        self.answers.write()?;
         Err(Unwritten)
     }
 
@@ -225,8 +230,8 @@ impl<'a, H: Host, G: Gate> Requests<'a, H, G> {
                     *splitter = Splitter::new(self.alloc);
                     self.skips = !self.place.is_between();
                     self.answers.begin();
-                    self.answers.keep(self.host, &Reply::NoMemory)?;
-                    self.answers.write(self.host)?;
+                    self.answers.keep(&Reply::NoMemory)?;
+                    self.answers.write()?;
                 }
             }
             rest = &rest[count..];
@@ -234,19 +239,52 @@ impl<'a, H: Host, G: Gate> Requests<'a, H, G> {
         unreachable!()
     }
 
-    fn frames(&mut self, frames: &[Frame]) -> Result<(), Unwritten> {
-        for (place, frame) in frames.iter().enumerate() {
-            self.answers.begin();
-            let told = match frame {
-                Frame::Empty => Some(SharedReply::new(Reply::BadTerm)),
-                Frame::Payload(payload) => self.payload(payload, frames.get(place + 1)),
-            };
-            if let Some(told) = told {
-                self.answers.keep(self.host, told.reply())?;
-            }
+    /// Answers frames, in order, and writes the replies.
+    fn frames(&mut self, frames: &[Frame]) -> Result<(), Unwritten>
+        ensures answered { OnOk result
+            ((replies : List (Option ReplyOf))
+            × AreAnswered self.old.seat (contents frames.now) replies
+            × Sends O.sent O.broken self.old.answers self.new.answers (reply_frames replies)) }
+        ensures whole { OnOk result (self.new.answers.frames.items ≡ []) }
+        ensures seat { self.new.seat ≡ self.old.seat }
+    {
+        let mut rest = frames;
+        while let Some((frame, behind)) = rest.split_first() {
+            self.frame(frame, behind.first())?;
+            rest = behind;
         }
-        self.answers.write(self.host)?;
+        self.answers.write()?;
         Ok(())
+    }
+
+    /// Answers a frame, and keeps the reply. `next` is the frame after it, if it has come.
+    fn frame(&mut self, frame: &Frame, next: Option<&Frame>) -> Result<(), Unwritten>
+        ensures answered { OnOk result
+            ((told : Option ReplyOf)
+            × IsAnswered self.old.seat (payload_of frame.now) told
+            × Sends O.sent O.broken self.old.answers self.new.answers
+            (reply_frames (told ∷ []))) }
+        ensures seat { self.new.seat ≡ self.old.seat }
+    {
+        self.answers.begin();
+        let Some(told) = self.reply_to_frame(frame, next) else {
+            return Ok(());
+        };
+        self.answers.keep(told.reply())
+    }
+
+    /// Replies to a frame. Returns None if an abort has ended its wait.
+    #[tactic(auto, unfolding(tab_etf::specs::Reading::whole))]
+    fn reply_to_frame(&mut self, frame: &Frame, next: Option<&Frame>) -> Option<SharedReply>
+        ensures reply { MatchOption result (IsEnded self.old.seat (payload_of frame.now))
+            (λ r. IsPayloadReply self.old.seat (payload_of frame.now) r) }
+        ensures seat { self.new.seat ≡ self.old.seat }
+        ensures sends { Sends O.sent O.broken self.old.answers self.new.answers [] }
+    {
+        match frame {
+            Frame::Empty => Some(SharedReply::new(Reply::BadTerm)),
+            Frame::Payload(payload) => self.payload(payload, next),
+        }
     }
 
     /// Replies to a payload. `next` is the frame after it, if it has come. Returns None if an abort has ended its wait.
@@ -254,6 +292,7 @@ impl<'a, H: Host, G: Gate> Requests<'a, H, G> {
         ensures reply { MatchOption result (IsEnded self.old.seat payload.now)
             (λ r. IsPayloadReply self.old.seat payload.now r) }
         ensures seat { self.new.seat ≡ self.old.seat }
+        ensures sends { Sends O.sent O.broken self.old.answers self.new.answers [] }
     {
         let held = match decode(self.alloc, payload) {
             Ok(held) => held,

@@ -1,15 +1,17 @@
 //! The commands of a connection's requests, as steps of its session.
 
-ghost use Rattle.std.specs.Prelude.{◌≡◌, ◌≢◌, IfOk, IfSome, IsOk, IsTrue, MatchOption};
+ghost use Rattle.std.specs.Prelude.{◌≡◌, ◌≢◌, [], IfOk, IfSome, IsOk, IsTrue, MatchOption};
 ghost use Rattle.tab_model.specs.declared.ask.Ask.TheVariants.{Retry, Do as DoCommand};
 ghost use Rattle.tab_model.specs.declared.data.Reply.TheVariants as reply;
 ghost use Rattle.tab_model.specs.Outcome.{is_abort};
 ghost use Rattle.tab_oneshot.specs.OneShots.{is_one_shot as is_one_shot_command};
 ghost use Rattle.tab_book.specs.Replies.{IsAnswer, IsReply};
 ghost use Rattle.tab_server.specs.Serving.{IsServed, IsSettled};
+ghost use Rattle.tab_server.specs.Sent.{Sends};
 
 use crate::gate::{Count, Gate};
 use crate::next::is_abort_in;
+use crate::outlet::Outlet;
 use crate::requests::Requests;
 use crate::troubles::pause;
 use std::alloc::{AllocError, Global};
@@ -44,12 +46,13 @@ fn is_one_shot(command: &Command) -> bool
     matches!(command, Command::OneShot(..))
 }
 
-impl<'a, H: Host, G: Gate> Requests<'a, H, G> {
+impl<'a, H: Host, O: Outlet, G: Gate> Requests<'a, H, O, G> {
     /// Replies to a command. `next` is the frame after it, if it has come. Returns None if an abort has ended its wait.
     pub fn command(&mut self, command: Command, next: Option<&Frame>) -> Option<SharedReply>
         ensures served { MatchOption result (IsServed self.old.seat command reply.Waiting)
             (λ r. IsServed self.old.seat command r) }
         ensures seat { self.new.seat ≡ self.old.seat }
+        ensures sends { Sends O.sent O.broken self.old.answers self.new.answers [] }
     {
         self.behind = self.end_of_wait(next);
         self.aborted = false;
@@ -66,6 +69,7 @@ impl<'a, H: Host, G: Gate> Requests<'a, H, G> {
     fn answer(&mut self, command: Command) -> SharedReply
         ensures served { IsServed self.old.seat command result }
         ensures seat { self.new.seat ≡ self.old.seat }
+        ensures sends { Sends O.sent O.broken self.old.answers self.new.answers [] }
     {
         if is_one_shot(&command) {
             let alloc = self.alloc;
@@ -88,6 +92,7 @@ impl<'a, H: Host, G: Gate> Requests<'a, H, G> {
     fn settled(&mut self, told: SharedReply) -> SharedReply
         ensures reply { IsSettled self.old.seat told result }
         ensures seat { self.new.seat ≡ self.old.seat }
+        ensures sends { Sends O.sent O.broken self.old.answers self.new.answers [] }
     {
         if !matches!(told.reply(), Reply::Waiting) {
             return told;
@@ -101,7 +106,8 @@ impl<'a, H: Host, G: Gate> Requests<'a, H, G> {
 
     /// Counts a restart, and backs off for at most `naps` sleeps.
     fn restarted(&mut self, naps: u32)
-        ensures { self.new.seat ≡ self.old.seat }
+        ensures seat { self.new.seat ≡ self.old.seat }
+        ensures sends { Sends O.sent O.broken self.old.answers self.new.answers [] }
     {
         self.answers.counts().count(Count::Restarts, 1);
         self.rest(naps);
@@ -118,7 +124,8 @@ impl<'a, H: Host, G: Gate> Requests<'a, H, G> {
     /// Unlocks the book, and counts the effects of the steps since it was locked. If they may have put items into mailboxes,
     /// it rings the dispatcher.
     pub fn give_back(&mut self)
-        ensures { self.new.seat ≡ self.old.seat }
+        ensures seat { self.new.seat ≡ self.old.seat }
+        ensures answers { self.new.answers ≡ self.old.answers }
     {
         self.held.give_back();
         if self.puts.take() {
@@ -132,6 +139,7 @@ impl<'a, H: Host, G: Gate> Requests<'a, H, G> {
         ensures abort { IsTrue (is_abort command) → IsOk result }
         ensures reply { IfOk result (λ r. IsReply self.old.seat (DoCommand command) r) }
         ensures seat { self.new.seat ≡ self.old.seat }
+        ensures answers { self.new.answers ≡ self.old.answers }
     {
         if matches!(command, Command::Subscribe(..)) {
             self.dispatcher.watch(self.line);
@@ -146,6 +154,7 @@ impl<'a, H: Host, G: Gate> Requests<'a, H, G> {
     fn reply_to(&mut self, answered: Answered) -> SharedReply
         ensures reply { result ≡ answered.told }
         ensures seat { self.new.seat ≡ self.old.seat }
+        ensures answers { self.new.answers ≡ self.old.answers }
     {
         let Answered {
             told,
@@ -168,13 +177,14 @@ impl<'a, H: Host, G: Gate> Requests<'a, H, G> {
 
     /// Backs off after a restart until the session's lock is free. The stream is watched after the first sleep.
     fn rest(&mut self, naps: u32)
-        ensures { self.new.seat ≡ self.old.seat }
+        ensures seat { self.new.seat ≡ self.old.seat }
+        ensures sends { Sends O.sent O.broken self.old.answers self.new.answers [] }
     {
         if matches!(self.held.rest(&self.seat), Rest::Over | Rest::Free) {
             return;
         }
         self.give_back();
-        if self.answers.write(self.host).is_err() || self.shared.rest(self.host, &self.seat, 1) {
+        if self.answers.write().is_err() || self.shared.rest(self.host, &self.seat, 1) {
             return;
         }
         self.watch.begin(self.host, false);
@@ -182,6 +192,30 @@ impl<'a, H: Host, G: Gate> Requests<'a, H, G> {
             .shared
             .rest(self.host, &self.seat, naps.saturating_sub(1));
         self.watch.end(self.host);
+    }
+
+    /// The answer of the operation that waits. None if an abort has ended the wait, or no one is left to be answered.
+    fn lock(&mut self) -> Option<Answered>
+        ensures over { IfSome result (λ a. a.told ≢ reply.Waiting) }
+        ensures answer { IfSome result (λ a. IsAnswer self.old.seat Retry a) }
+        ensures seat { self.new.seat ≡ self.old.seat }
+        ensures sends { Sends O.sent O.broken self.old.answers self.new.answers [] }
+    {
+        if self.answers.write().is_err() {
+            return None;
+        }
+        if self.behind == Behind::Abort {
+            self.aborted = true;
+            return None;
+        }
+        if let Ok(Some(answered)) = self.shared.retry_for(self.host, &self.seat, 1) {
+            return Some(answered);
+        }
+        self.watch.begin(self.host, self.behind == Behind::Stream);
+        let granted = self.granted();
+        self.watch.end(self.host);
+        self.aborted = granted.is_none();
+        granted
     }
 
     /// The answer of the request that waits; None if an abort ends its wait. If memory is refused while it asks again,
@@ -202,39 +236,33 @@ impl<'a, H: Host, G: Gate> Requests<'a, H, G> {
     }
 }
 
-impl<'a, H: Host, G: Gate> Steps for Requests<'a, H, G> {
+impl<'a, H: Host, O: Outlet, G: Gate> Steps for Requests<'a, H, O, G> {
+    ghost use Rattle.std.specs.Prelude.{[]};
     ghost use Rattle.tab_server.specs.Serving.{Serves, serves_none, serves_on};
+    ghost use Rattle.tab_server.specs.Sent.{Sends};
+    ghost use Rattle.tab_server.specs.Laws.{sends_none, sends_on};
 
-    ghost shows = { λ x calls y. Serves x.seat calls y.seat };
+    ghost shows = { λ x calls y.
+        Serves x.seat calls y.seat × Sends O.sent O.broken x.answers y.answers [] };
 
-    ghost shows_none = { λ x. serves_none x.seat };
+    ghost shows_none = { λ x. (serves_none x.seat, sends_none O.sent O.broken x.answers) };
 
-    ghost shows_on = { λ x y z first more. serves_on x.seat y.seat z.seat first more };
+    ghost shows_on = { λ x y z first more h k. (
+      serves_on x.seat y.seat z.seat first more h.0 k.0,
+      sends_on O.sent O.broken x.answers y.answers z.answers [] [] h.1 k.1,
+    ) };
 
     fn step(&mut self, command: Command) -> Result<SharedReply, AllocError> {
         self.make(command)
     }
 
-    /// None if an abort has ended the wait, or no one is left to be answered.
     fn wait(&mut self) -> Option<Result<SharedReply, AllocError>> {
         self.give_back();
         self.answers.counts().count(Count::Waits, 1);
-        if self.answers.write(self.host).is_err() {
-            return None;
-        }
-        if self.behind == Behind::Abort {
-            self.aborted = true;
-            return None;
-        }
-        if let Ok(Some(answered)) = self.shared.retry_for(self.host, &self.seat, 1) {
-            return Some(Ok(self.reply_to(answered)));
-        }
-        self.watch.begin(self.host, self.behind == Behind::Stream);
-        let granted = self.granted();
-        self.watch.end(self.host);
-        self.aborted = granted.is_none();
-        let answered = granted?;
-        Some(Ok(self.reply_to(answered)))
+        self.answers.counts().wait(self.seat.session());
+        let answered = self.lock();
+        self.answers.counts().go_on(self.seat.session());
+        Some(Ok(self.reply_to(answered?)))
     }
 
     fn again(&mut self) {
