@@ -51,10 +51,15 @@ def test_each_is_counted(server: Metered) -> None:
 
 def test_waits_and_restarts(server: Metered) -> None:
     older, younger = server.clients(2)
+    server.has(waiting_operations=0, lock_wait_seconds_total=0)
+    began = time.monotonic()
     read_waits(older, younger)
-    server.has(waits_total=1, restarts_total=0, open_transactions=2, commits_total=0)
+    server.has(waits_total=1, waiting_operations=1, restarts_total=0, open_transactions=2, commits_total=0)
+    time.sleep(0.2)
     script((younger, "commit", ("atomic", 1)))
     gets(older, [("t", 1, "b")])
+    server.has(waiting_operations=0)
+    assert 0.2 <= server.page()["lock_wait_seconds_total"] <= time.monotonic() - began
     script((younger, one_shot(write(1, "c")), ("aborted", "nomore")))
     server.has(waits_total=1, restarts_total=1, given_up_total=1, open_transactions=1, commits_total=1, aborts_total=1)
     script((younger, "begin", ("tid", 4)), (younger, "begin", ("tid", 4)), (younger, write(1, "c"), "restart"), (younger, "commit", ("atomic", 2)))
@@ -275,6 +280,7 @@ def test_refused_connections(server: Metered) -> None:
         assert server.connect().receive() == LIMIT, "a fifth"
     server.has(connections_limit=4, connections_refused_total=3, sessions=len(served), sessions_idle_ended_total=0)
     assert server.samples()["build_info"] == {'version="0.1.0"': 1}
+    assert 0 <= time.time() - server.page()["start_time_seconds"] <= 60, "its start"
 
 
 def test_idle_sessions(tabd: str) -> None:
@@ -285,6 +291,15 @@ def test_idle_sessions(tabd: str) -> None:
         assert idle.stream.read() == b"", "it is ended"
         other.close()
         server.has(sessions_idle_ended_total=1, sessions=0, sessions_started_total=2)
+
+
+def test_limited_sessions(tabd: str) -> None:
+    """Those whose transaction was open for too long."""
+    with Metered(tabd, 2, "--transaction-limit", "1") as server:
+        late, other = server.clients(2)
+        script((late, "begin", ("tid", 1)), (other, "begin", ("tid", 2)), (other, "commit", ("atomic", 1)))
+        assert late.stream.read() == b"", "it is ended"
+        server.has(sessions_limit_ended_total=1, sessions_idle_ended_total=0, sessions=1)
 
 
 def test_ends_by_itself(tabd: str, serve: Callable[..., Server]) -> None:

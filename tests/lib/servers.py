@@ -188,11 +188,11 @@ class Metered(Server):
         reply = connection.getresponse()
         return reply.status, reply.getheader("Content-Type"), reply.read().decode()
 
-    def page(self) -> Dict[str, int]:
+    def page(self) -> Dict[str, float]:
         """The value of each metric that has no label, as Prometheus reads it: two lines of comments come before it."""
         return {name: values[""] for name, values in self.samples().items() if "" in values}
 
-    def samples(self) -> Dict[str, Dict[str, int]]:
+    def samples(self) -> Dict[str, Dict[str, float]]:
         """The values of each metric, by the text between its braces."""
         status, kind, text = self.ask()
         same("the page", (status, kind), (200, "text/plain; version=0.0.4"))
@@ -202,15 +202,15 @@ class Metered(Server):
             same(name, kind, "counter" if name.endswith("_total") else "gauge")
         return {name: samples_in(name, lines) for name, _, lines in sections}
 
-    def has(self, **wanted: int) -> None:
+    def has(self, **wanted: float) -> None:
         """These metrics, once all is counted that has happened."""
         __tracebackhide__ = True
         found = soon(lambda: {name: self.page()[name] for name in wanted}, lambda found: found == wanted, COUNTED)
         assert found == wanted, "metrics"
 
 
-def samples_in(name: str, lines: str) -> Dict[str, int]:
+def samples_in(name: str, lines: str) -> Dict[str, float]:
     """The values of a metric's lines, by the text between the braces of each; without braces by none."""
-    found = re.findall(r"tabd_\w+(?:\{(.*)\})? (\d+)\n", lines)
+    found = re.findall(r"tabd_\w+(?:\{(.*)\})? (\d+(?:\.\d{6})?)\n", lines)
     same(name, len(found), lines.count("\n"))
-    return {label: int(value) for label, value in found}
+    return {label: float(value) for label, value in found}

@@ -4,7 +4,7 @@ use crate::tallies::Tallies;
 use arrayvec::ArrayVec;
 use std::sync::atomic::{AtomicU64, Ordering};
 use std::sync::{Mutex, Wait};
-use std::time::{Clock, Instant};
+use std::time::{Clock, Duration, Instant, SystemTime};
 use tab_book::SESSIONS;
 use tab_server::{Count, Note};
 
@@ -45,13 +45,21 @@ pub struct Meters {
     ended: AtomicU64,
     idle: AtomicU64,
     refused: AtomicU64,
+    /// Sessions that were ended since their transaction was open for too long.
+    limited: AtomicU64,
+    /// Operations that wait for a lock.
+    waiting: AtomicU64,
+    /// The microseconds that operations have waited for locks.
+    waited: AtomicU64,
+    /// The time of the start, if the clock could be read.
+    start: Option<SystemTime>,
     open: Mutex<ArrayVec<Open, SESSIONS>>,
     tallies: Tallies,
 }
 
 impl Meters {
     /// Nothing has happened yet.
-    pub fn new(about: About) -> Meters {
+    pub fn new<R: Clock>(rt: &R, about: About) -> Meters {
         Meters {
             about,
             read: AtomicU64::new(0),
@@ -67,6 +75,10 @@ impl Meters {
             ended: AtomicU64::new(0),
             idle: AtomicU64::new(0),
             refused: AtomicU64::new(0),
+            limited: AtomicU64::new(0),
+            waiting: AtomicU64::new(0),
+            waited: AtomicU64::new(0),
+            start: SystemTime::now(rt).ok(),
             open: Mutex::new(ArrayVec::new()),
             tallies: Tallies::new(),
         }
@@ -134,6 +146,27 @@ impl Meters {
         self.refused.load(Ordering::SeqCst)
     }
 
+    /// Sessions that were ended since their transaction was open for too long.
+    pub fn limited(&self) -> u64 {
+        self.limited.load(Ordering::SeqCst)
+    }
+
+    /// Operations that wait for a lock.
+    pub fn waiting(&self) -> u64 {
+        self.waiting.load(Ordering::SeqCst)
+    }
+
+    /// The time that operations have waited for locks, without those that still wait.
+    pub fn waited(&self) -> Duration {
+        Duration::from_micros(self.waited.load(Ordering::SeqCst))
+    }
+
+    /// The time of the start in seconds from 1970 on. None if the clock could not be read.
+    pub fn start(&self) -> Option<u64> {
+        let since = self.start?.duration_since(SystemTime::UNIX_EPOCH).ok()?;
+        Some(since.as_secs())
+    }
+
     /// Sessions that have started.
     pub fn started(&self) -> u64 {
         self.started.load(Ordering::SeqCst)
@@ -153,6 +186,21 @@ impl Meters {
     /// The number of these since the start.
     pub fn total(&self, count: Count) -> u64 {
         self.counter(count).load(Ordering::SeqCst)
+    }
+
+    /// The session's operation waits for a lock.
+    pub fn wait<R: Clock>(&self, rt: &R, session: u32) {
+        add(&self.waiting, 1);
+        self.tallies.wait(session, micros(rt));
+    }
+
+    /// The session's operation waits no more.
+    pub fn go_on<R: Clock>(&self, rt: &R, session: u32) {
+        self.waiting.fetch_sub(1, Ordering::SeqCst);
+        let since = self.tallies.go_on(session);
+        if since > 0 {
+            add(&self.waited, micros(rt).saturating_sub(since));
+        }
     }
 
     /// The session has opened a transaction.
@@ -210,6 +258,7 @@ impl Meters {
             let age = seconds(rt, Some(*open));
             if !open.ended && age >= most {
                 open.ended = true;
+                add(&self.limited, 1);
                 let _kept = over.try_push((open.session, age));
             }
         }
@@ -241,6 +290,14 @@ fn seconds<R: Clock>(rt: &R, open: Option<Open>) -> u64 {
     };
     match since.elapsed(rt) {
         Ok(age) => age.as_secs(),
+        Err(_) => 0,
+    }
+}
+
+/// The microseconds since a start, which stays the same; 0 if the clock can't be read.
+fn micros<R: Clock>(rt: &R) -> u64 {
+    match rt.monotonic() {
+        Ok(time) => time.as_micros() as u64,
         Err(_) => 0,
     }
 }

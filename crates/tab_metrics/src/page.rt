@@ -86,7 +86,7 @@ static COUNTERS: [Counter; 8] = [
     Counter {
         count: Count::Waits,
         name: "waits",
-        help: "Operations that waited for a lock.",
+        help: "Operations that have waited for a lock.",
     },
     Counter {
         count: Count::GivenUp,
@@ -122,6 +122,7 @@ pub fn page_of<R: Wait + Clock>(
     };
     page.server(meters)?;
     page.counters(meters)?;
+    page.waits(meters.waiting(), meters.waited())?;
     page.transactions(meters.open(rt), meters.oldest(rt))?;
     page.tables(&holdings.tables)?;
     page.watchers(holdings)?;
@@ -165,7 +166,40 @@ impl Page {
             "Sessions that were ended since they were idle.",
             meters.idle(),
         )?;
-        self.gauge("sessions", "Sessions that are joined.", meters.sessions())
+        self.counter(
+            "sessions_limit_ended",
+            "Sessions that were ended since their transaction was open for too long.",
+            meters.limited(),
+        )?;
+        self.gauge("sessions", "Sessions that are joined.", meters.sessions())?;
+        match meters.start() {
+            Some(start) => self.gauge(
+                "start_time_seconds",
+                "When the server started, in seconds from 1970 on.",
+                start,
+            ),
+            None => Ok(()),
+        }
+    }
+
+    /// The operations that wait for locks now, and the time that operations have waited.
+    fn waits(&mut self, waiting: u64, waited: Duration) -> Result<(), AllocError> {
+        self.gauge(
+            "waiting_operations",
+            "Operations that wait for a lock now.",
+            waiting,
+        )?;
+        self.head(
+            "lock_wait_seconds_total",
+            "counter",
+            "How long operations have waited for locks.",
+        )?;
+        let (seconds, micros) = (waited.as_secs(), waited.subsec_micros());
+        write!(
+            self.text,
+            "tabd_lock_wait_seconds_total {seconds}.{micros:06}\n"
+        )?;
+        Ok(())
     }
 
     fn counters(&mut self, meters: &Meters) -> Result<(), AllocError> {

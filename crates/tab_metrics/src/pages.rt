@@ -2,7 +2,7 @@
 
 use crate::closing::Closing;
 use crate::page::{Holdings, Paged};
-use crate::requests::{Request, read_request};
+use crate::requests::{Page, Request, read_request};
 use crate::timed::Timed;
 use std::alloc::{AllocError, Global};
 use std::io::{self, Write};
@@ -16,11 +16,6 @@ use tab_post::Host;
 
 /// The most clients that are answered at once.
 const CLIENTS: u64 = 16;
-
-/// The parameters of the content types of the two pages.
-const METERS: &str = "version=0.0.4";
-
-const SESSIONS: &str = "charset=utf-8";
 
 /// Answers GET and HEAD of `/metrics` and `/sessions`, each client in a thread of its own, until `closing` is closed.
 pub fn serve_pages<H: Host + Threads + Send + Sync, P: Paged + Sync>(
@@ -82,10 +77,8 @@ fn answer<H: Host, P: Paged>(
         return Ok(());
     };
     let text = match request {
-        Request::Page => found(alloc, METERS, &page(host, alloc, shared, paged)?, true)?,
-        Request::Head => found(alloc, METERS, &page(host, alloc, shared, paged)?, false)?,
-        Request::Sessions => found(alloc, SESSIONS, &sessions(host, shared, paged)?, true)?,
-        Request::SessionsHead => found(alloc, SESSIONS, &sessions(host, shared, paged)?, false)?,
+        Request::Get(page) => found(alloc, page, &text(host, alloc, shared, paged, page)?, true)?,
+        Request::Head(page) => found(alloc, page, &text(host, alloc, shared, paged, page)?, false)?,
         Request::Elsewhere => other(alloc, "404 Not Found")?,
         Request::Otherwise => other(alloc, "405 Method Not Allowed\r\nAllow: GET, HEAD")?,
         Request::Wrong => other(alloc, "400 Bad Request")?,
@@ -95,31 +88,33 @@ fn answer<H: Host, P: Paged>(
     stream.end()
 }
 
-fn page<H: Host, P: Paged>(
+/// Returns the text of a page. The book is locked for one pass over its sessions, or as for `Holdings`.
+fn text<H: Host, P: Paged>(
     host: &H,
     alloc: Global,
     shared: &Shared<H>,
     paged: &P,
+    page: Page,
 ) -> Result<String, AllocError> {
-    paged.page(&Holdings::of(host, alloc, shared)?)
+    match page {
+        Page::Meters => paged.page(&Holdings::of(host, alloc, shared)?),
+        Page::Sessions => {
+            let activities = shared.hold(host).activities()?;
+            paged.sessions(&activities)
+        }
+    }
 }
 
-/// Returns the page of sessions. The book is locked for one pass over them.
-fn sessions<H: Host, P: Paged>(
-    host: &H,
-    shared: &Shared<H>,
-    paged: &P,
-) -> Result<String, AllocError> {
-    let activities = shared.hold(host).activities()?;
-    paged.sessions(&activities)
-}
-
-/// The answer to a request for this page: its head, and the page too if `is_whole`.
-fn found(alloc: Global, kind: &str, page: &str, is_whole: bool) -> Result<String, AllocError> {
-    let len = page.len();
-    let body = if is_whole { page } else { "" };
+/// The answer to a request for this page: its head, and its text too if `is_whole`.
+fn found(alloc: Global, page: Page, text: &str, is_whole: bool) -> Result<String, AllocError> {
+    let parameter = match page {
+        Page::Meters => "version=0.0.4",
+        Page::Sessions => "charset=utf-8",
+    };
+    let len = text.len();
+    let body = if is_whole { text } else { "" };
     format!(in alloc;
-        "HTTP/1.1 200 OK\r\nContent-Type: text/plain; {kind}\r\nContent-Length: {len}\r\nConnection: close\r\n\r\n{body}"
+        "HTTP/1.1 200 OK\r\nContent-Type: text/plain; {parameter}\r\nContent-Length: {len}\r\nConnection: close\r\n\r\n{body}"
     )
 }
 

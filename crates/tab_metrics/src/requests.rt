@@ -1,8 +1,8 @@
 //! What is asked over HTTP.
 
-ghost use Rattle.std.specs.Prelude.{◌↔◌, IsTrue, MatchOption};
+ghost use Rattle.std.specs.Prelude.{◌≡◌, ◌↔◌, IsTrue, MatchOption};
 ghost use Rattle.httparse.specs.Grammar.{HasNoRequest};
-ghost use Rattle.tab_metrics.specs.Heads.{IsAskedIn, NamesPage, NamesSessions};
+ghost use Rattle.tab_metrics.specs.Heads.{IsAskedIn, Names, NamesNone, NamesPage, is_query as is_query_in};
 
 use httparse::Status;
 use httparse::spans::{EMPTY_HEADER_SPAN, parse_request};
@@ -15,17 +15,20 @@ const HEADERS: usize = 64;
 
 const PIECES: usize = 64;
 
+/// A page.
+#[derive(Clone, Copy, Debug, PartialEq, Eq)]
+pub enum Page {
+    /// `/metrics`.
+    Meters,
+    /// `/sessions`.
+    Sessions,
+}
+
 /// The kind of a request.
 #[derive(Clone, Copy, Debug, PartialEq, Eq)]
 pub enum Request {
-    /// GET of the page of meters.
-    Page,
-    /// HEAD of the page of meters.
-    Head,
-    /// GET of the page of sessions.
-    Sessions,
-    /// HEAD of the page of sessions.
-    SessionsHead,
+    Get(Page),
+    Head(Page),
     /// A request for another path.
     Elsewhere,
     /// A request by another method.
@@ -67,21 +70,13 @@ fn request_in(head: &[u8]) -> Option<Request>
         Ok(Status::Partial) => None,
         Ok(Status::Complete(spans)) => {
             let method = spans.method.of(head);
-            let target = spans.path.of(head);
-            Some(if names_page(target) {
-                if method == b"GET".as_slice() {
-                    Request::Page
-                } else if method == b"HEAD".as_slice() {
-                    Request::Head
-                } else {
-                    Request::Otherwise
-                }
-            } else if !names_sessions(target) {
-                Request::Elsewhere
-            } else if method == b"GET".as_slice() {
-                Request::Sessions
+            let Some(page) = page_of(spans.path.of(head)) else {
+                return Some(Request::Elsewhere);
+            };
+            Some(if method == b"GET".as_slice() {
+                Request::Get(page)
             } else if method == b"HEAD".as_slice() {
-                Request::SessionsHead
+                Request::Head(page)
             } else {
                 Request::Otherwise
             })
@@ -90,16 +85,35 @@ fn request_in(head: &[u8]) -> Option<Request>
     }
 }
 
-/// Returns whether a request's target names the page of meters. A query is ignored.
-fn names_page(target: &[u8]) -> bool
-    ensures { IsTrue result ↔ NamesPage target.now }
+/// The page that a request's target names.
+fn page_of(target: &[u8]) -> Option<Page>
+    ensures { MatchOption result (NamesNone target.now) (λ page. NamesPage page target.now) }
 {
-    target == b"/metrics".as_slice() || target.starts_with(b"/metrics?".as_slice())
+    if names(target, b"/metrics".as_slice()) {
+        return Some(Page::Meters);
+    }
+    if names(target, b"/sessions".as_slice()) {
+        return Some(Page::Sessions);
+    }
+    None
 }
 
-/// Returns whether a request's target names the page of sessions. A query is ignored.
-fn names_sessions(target: &[u8]) -> bool
-    ensures { IsTrue result ↔ NamesSessions target.now }
+/// Returns whether a request's target has this path. A query is ignored.
+fn names(target: &[u8], path: &[u8]) -> bool
+    ensures { IsTrue result ↔ Names path.now target.now }
 {
-    target == b"/sessions".as_slice() || target.starts_with(b"/sessions?".as_slice())
+    match target.strip_prefix(path) {
+        Some(rest) => is_query(rest),
+        None => false,
+    }
+}
+
+/// Returns whether this is a query, or nothing.
+fn is_query(rest: &[u8]) -> bool
+    ensures { result ≡ is_query_in rest.now }
+{
+    match rest.first() {
+        Some(first) => *first == b'?',
+        None => true,
+    }
 }

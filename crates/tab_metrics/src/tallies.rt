@@ -11,6 +11,8 @@ struct Tally {
     session: AtomicU32,
     written: AtomicU64,
     items: AtomicU64,
+    /// The time since which its operation waits, in microseconds; 0 if none waits.
+    waits: AtomicU64,
 }
 
 impl Tally {
@@ -19,6 +21,7 @@ impl Tally {
             session: AtomicU32::new(0),
             written: AtomicU64::new(0),
             items: AtomicU64::new(0),
+            waits: AtomicU64::new(0),
         }
     }
 
@@ -37,6 +40,7 @@ impl Tally {
     fn give_back(&self) {
         self.written.store(0, Ordering::SeqCst);
         self.items.store(0, Ordering::SeqCst);
+        self.waits.store(0, Ordering::SeqCst);
         self.session.store(0, Ordering::SeqCst);
     }
 }
@@ -81,6 +85,21 @@ impl Tallies {
                 tally.items.fetch_add(many, Ordering::SeqCst);
             }
             _ => {}
+        }
+    }
+
+    /// The session's operation waits since this time.
+    pub fn wait(&self, session: u32, since: u64) {
+        if let Some(tally) = self.of(session) {
+            tally.waits.store(since, Ordering::SeqCst);
+        }
+    }
+
+    /// The session's operation waits no more. Returns the time since which it has waited; 0 if that is not known.
+    pub fn go_on(&self, session: u32) -> u64 {
+        match self.of(session) {
+            Some(tally) => tally.waits.swap(0, Ordering::SeqCst),
+            None => 0,
         }
     }
 

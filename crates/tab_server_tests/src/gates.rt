@@ -72,6 +72,10 @@ impl<R: Threads + Clock> Counts for Held<R> {
     fn end(&self, _session: u32) {}
 
     fn subscribe(&self, _session: u32) {}
+
+    fn wait(&self, _session: u32) {}
+
+    fn go_on(&self, _session: u32) {}
 }
 
 impl<R: Threads + Clock> Gate for Held<R> {
@@ -117,6 +121,10 @@ impl<R: Threads + Clock> Counts for InTurn<R> {
     fn end(&self, _session: u32) {}
 
     fn subscribe(&self, _session: u32) {}
+
+    fn wait(&self, _session: u32) {}
+
+    fn go_on(&self, _session: u32) {}
 }
 
 impl<R: Threads + Clock> Gate for InTurn<R> {
@@ -235,7 +243,7 @@ where
     let listener = TcpListener::bind(rt, ("127.0.0.1", 0)).map_err(|_| "bind")?;
     let address = listener.local_addr().map_err(|_| "address")?;
     let listener = Listener::Tcp(listener);
-    let shared = Shared::new(Book::new(host, alloc, opened, LIMITS, 64)?);
+    let shared = Shared::new(Book::new(host, alloc, opened, LIMITS)?, 64);
     let served = AtomicU64::new(0);
     let right = beside(
         &host, rt, alloc, &shared, gate, 2, &listener, address, &served,

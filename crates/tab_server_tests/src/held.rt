@@ -147,7 +147,7 @@ fn run<H: Host + Threads + Send + Sync>(
 ) -> Result<bool, Fail>
     requires { opened ≡ H.book }
 {
-    let shared = Shared::new(Book::new(host, alloc, opened, LIMITS, 2)?);
+    let shared = Shared::new(Book::new(host, alloc, opened, LIMITS)?, 2);
     let (writer, others) = shared.join(&host).map_err(|_| "join")?;
     let (reader, inbox) = shared.join(&host).map_err(|_| "join")?;
     let create = Schema::Create(atom(alloc, "t")?, Terms::from_vec(Vec::new(alloc)));

@@ -42,11 +42,12 @@ static SENT: [(&[u8], bool); 5] = [
 /// Returns whether each frame that has to be written is, and of the broken one a beginning and nothing after it.
 fn is_broken_for_good<R: Wait>(rt: &R, alloc: Global) -> bool {
     let written = Mutex::new(Vec::new(alloc));
-    let sink = FrameSink::new(Once {
+    let writer = Once {
         rt,
         written: &written,
         calls: 0,
-    });
+    };
+    let sink = FrameSink::new(writer);
     let mut right = !sink.is_broken(rt);
     for (frame, wanted) in &SENT {
         right &= sink.send(rt, frame).is_ok() == *wanted && sink.is_broken(rt) != *wanted;

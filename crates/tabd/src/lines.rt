@@ -152,6 +152,18 @@ impl<R: Wait + Clock, E: Target, I: Source> Counts for Lines<R, E, I> {
     fn subscribe(&self, session: u32) {
         self.roster.subscribe(&self.rt, session);
     }
+
+    fn wait(&self, session: u32) {
+        if let Some(meters) = &self.meters {
+            meters.wait(&self.rt, session);
+        }
+    }
+
+    fn go_on(&self, session: u32) {
+        if let Some(meters) = &self.meters {
+            meters.go_on(&self.rt, session);
+        }
+    }
 }
 
 impl<R: Wait + Clock, E: Target, I: Source> Paged for Lines<R, E, I> {

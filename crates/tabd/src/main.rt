@@ -15,6 +15,7 @@ use lines::{Lines, Told};
 use running::run;
 use std::marker::Brand;
 use std::process::ExitCode;
+use std::time::Clock;
 use tab_etf::Counted;
 use tab_metrics::{About, Meters};
 use tab_post::Opened;
@@ -27,7 +28,7 @@ fn main(rt: HostRuntime) -> ExitCode {
     let mut errors = Counted::new(rt.stderr());
     let wanted = asked(&rt);
     let told = match &wanted {
-        Ok(Run::Serve(_, service)) => told(service),
+        Ok(Run::Serve(_, service)) => told(&rt, service),
         _ => Told {
             log: Log::Brief,
             meters: None,
@@ -57,10 +58,10 @@ fn main(rt: HostRuntime) -> ExitCode {
     status
 }
 
-fn told(service: &Service) -> Told {
+fn told<R: Clock>(rt: &R, service: &Service) -> Told {
     Told {
         log: service.log,
-        meters: meters(service),
+        meters: meters(rt, service),
         slow: service.slow,
         limit: service.limit,
         idle: service.idle,
@@ -68,12 +69,13 @@ fn told(service: &Service) -> Told {
 }
 
 /// The counters of a server that has a page of them, or that times transactions.
-fn meters(service: &Service) -> Option<Meters> {
+fn meters<R: Clock>(rt: &R, service: &Service) -> Option<Meters> {
     if service.metrics.is_none() && service.slow.is_none() && service.limit.is_none() {
         return None;
     }
-    Some(Meters::new(About {
+    let about = About {
         version: VERSION,
         connections: service.sizes.connections,
-    }))
+    };
+    Some(Meters::new(rt, about))
 }
