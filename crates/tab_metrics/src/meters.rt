@@ -297,7 +297,12 @@ fn seconds<R: Clock>(rt: &R, open: Option<Open>) -> u64 {
 /// The microseconds since a start, which stays the same; 0 if the clock can't be read.
 fn micros<R: Clock>(rt: &R) -> u64 {
     match rt.monotonic() {
-        Ok(time) => time.as_micros() as u64,
+        Ok(time) => {
+            let micros = u64::from(time.subsec_micros());
+            time.as_secs()
+                .saturating_mul(1_000_000)
+                .saturating_add(micros)
+        }
         Err(_) => 0,
     }
 }
