@@ -9,6 +9,7 @@ allocations of many commits show which is the first that folds the journal of a 
 
 import contextlib
 import itertools
+import re
 import select
 import sys
 from dataclasses import dataclass
@@ -208,7 +209,8 @@ class Joins:
             if self.words:
                 server.seated()[0].close()
             if not self.words:
-                server.ends()
+                status, errors = server.ended()
+                assert status == 0 and re.fullmatch(r"(tabd: no (memory|thread) for a session\n)?", errors), errors
             return end if made >= nth else "none"
 
     def joined(self, first: Connection) -> str:

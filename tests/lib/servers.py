@@ -72,10 +72,15 @@ class Server:
     def ends(self, status: int = 0, said: str = "") -> None:
         """By itself once its connections are closed, and says no more than this, on standard error."""
         __tracebackhide__ = True
+        same("its end", self.ended(), (status, said))
+
+    def ended(self) -> Tuple[int, str]:
+        """Its status and what it says on standard error, once its connections are closed; it says nothing on standard output."""
         for connection in self.connections:
             connection.close()
         out, errors = self.process.communicate(timeout=TO_END)
-        assert (self.process.returncode, out, errors) == (status, "", said), "its end"
+        assert out == "", "what it says"
+        return self.process.returncode, errors
 
     def is_stopped(self, said: str = "") -> None:
         """A signal ends it, and it has not ended before, nor said more than this on standard error."""
