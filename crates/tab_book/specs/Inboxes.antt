@@ -7,7 +7,7 @@ use Rattle.tab_model.specs.Outcome.{outcome}
 use Rattle.tab_outbox.specs.Mailboxes.{StartsWith}
 use Rattle.tab_book.specs.declared.step.Drained.{Drained}
 use Rattle.tab_book.specs.declared.step.Drained.TheVariants.{Going, AllTaken, Overflow, Left}
-use Rattle.tab_book.specs.Running.{Running}
+use Rattle.tab_book.specs.Running.{Running, IsRunning}
 
 -- the session is joined, with the post of that mailbox
 pub record IsOwn (b : Running) (n mailbox : ℕ) (s : Session) : Type 0 where
@@ -25,6 +25,14 @@ Drains old n mailbox before (Overflow c) after new =
     (s : Session) × IsOwn old n mailbox s × (after ≡ before) × (after ≡ s.outbox.items) × (s.overflow ≡ Some c)
     × (new ≡ record { state = (outcome old.state [] n Take).state; journal = old.journal })
 Drains old n mailbox before Left after new = (session_at old.state.sessions n ≡ None) × (after ≡ before) × (new ≡ old)
+
+-- a running book gave this to an inbox of that mailbox, which had received the one list and then the other
+pub record IsDrained (n mailbox : ℕ) (before : List Item) (r : Drained) (after : List Item) : Type 0 where
+  pub book : Running
+  pub next : Running
+  pub runs : IsRunning book
+  pub drains : Drains book n mailbox before r after next
+  pub runs_on : IsRunning next
 
 -- what is known after the lock was let go: an item that is given was taken, and no other answer takes one
 abbrev pub TakesIt : List Item → Drained → List Item → Type 0

@@ -4,7 +4,7 @@ ghost use Rattle.std.specs.Prelude.{◌≡◌, Some};
 ghost use Rattle.tab_model.specs.State.{Session, session_at};
 ghost use Rattle.tab_post.specs.Ends.{mailbox_of, received};
 ghost use Rattle.tab_book.specs.Running.{IsRunning};
-ghost use Rattle.tab_book.specs.Inboxes.{Drains, TellsOverflow};
+ghost use Rattle.tab_book.specs.Inboxes.{Drains, IsDrained, TellsOverflow};
 ghost use Rattle.tab_book.specs.Steps.{KeepsPosts};
 
 use crate::book::Book;
@@ -21,9 +21,12 @@ impl<H: Host> Book<H> {
         ensures mailbox { mailbox_of inbox.new ≡ mailbox_of inbox.old }
         ensures posts { KeepsPosts self.old.state self.new.state }
         ensures running { IsRunning self.new }
+        ensures of_a_running_book { IsDrained session (mailbox_of inbox.old) (received inbox.old)
+            result (received inbox.new) }
     {
+        // Known of the book before, and after, is what its parts have to do with each other.
+        let _ = self.journal();
         let drained = self.next_at(session, inbox);
-        // Known of the book from here on is what its parts have to do with each other.
         let _ = &self.core;
         drained
     }

@@ -4,8 +4,8 @@ ghost use Rattle.std.specs.Prelude.{◌≡◌, ◌≢◌, ◌≤◌, [], IsTrue,
 ghost use Rattle.tab_model.specs.declared.data.Reply.TheVariants as reply;
 ghost use Rattle.tab_model.specs.declared.ask.Ask.TheVariants.{Retry, Do as DoCommand};
 ghost use Rattle.tab_model.specs.Outcome.{is_abort};
-ghost use Rattle.tab_post.specs.Ends.{received, capacity_in};
-ghost use Rattle.tab_book.specs.Inboxes.{TakesIt};
+ghost use Rattle.tab_post.specs.Ends.{received, capacity_in, mailbox_of};
+ghost use Rattle.tab_book.specs.Inboxes.{IsDrained, TakesIt};
 ghost use Rattle.tab_book.specs.Replies.{IsAnswer, IsReply, IsCallReply, Leaves};
 ghost use Rattle.tab_book.specs.Steps.{ask_of, is_never_refused};
 
@@ -255,7 +255,10 @@ impl<H: Host> Shared<H> {
 
     /// Takes one item more at the session's inbox, or shows that all is taken, under one hold of the lock.
     pub fn drained(&self, host: &H, seat: &Seat, inbox: &mut Inbox<H>) -> Drained
-        ensures { TakesIt (received inbox.old) result (received inbox.new) }
+        ensures takes { TakesIt (received inbox.old) result (received inbox.new) }
+        ensures mailbox { mailbox_of inbox.new ≡ mailbox_of inbox.old }
+        ensures of_a_running_book { IsDrained seat.now (mailbox_of inbox.old) (received inbox.old)
+            result (received inbox.new) }
     {
         self.hold(host).drained(seat.session, inbox)
     }

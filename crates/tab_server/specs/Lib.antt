@@ -1,4 +1,5 @@
 pub mod Gathered
+pub mod Forwarded
 pub mod Sending
 pub mod Serving
 pub mod Sent

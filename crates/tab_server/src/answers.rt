@@ -1,6 +1,6 @@
 //! Replies that are kept, and written at once.
 
-ghost use Rattle.std.specs.Prelude.{◌≡◌, OnOk, [], None};
+ghost use Rattle.std.specs.Prelude.{◌≡◌, IsTrue, OnErr, OnOk, [], None};
 ghost use Rattle.tab_server.specs.Sending.{Goes, reply_frame};
 
 use crate::gate::{Count, Gate};
@@ -73,8 +73,9 @@ impl<'a, O: Outlet, G: Gate> Answers<'a, O, G> {
 
     /// Keeps the reply to it, until some are written at once.
     pub fn keep(&mut self, reply: &Reply) -> Result<(), Unwritten>
-        ensures { OnOk result (Goes O.sent O.broken self.old.outlet self.old.frames.items
+        ensures bytes { OnOk result (Goes O.sent O.broken self.old.outlet self.old.frames.items
             self.new.outlet self.new.frames.items (reply_frame reply.now)) }
+        ensures err { OnErr result (IsTrue (O.broken self.new.outlet)) }
     {
         // If there is no memory to keep it in, it may still go in pieces.
         let is_kept = append_reply_within(None, reply, LONG, &mut self.frames).unwrap_or(false);
@@ -90,12 +91,13 @@ impl<'a, O: Outlet, G: Gate> Answers<'a, O, G> {
 
     /// Sends a reply after those that are kept, piece by piece.
     fn send_long(&mut self, reply: &Reply) -> Result<(), Unwritten>
-        ensures { OnOk result (Goes O.sent O.broken self.old.outlet self.old.frames.items
+        ensures bytes { OnOk result (Goes O.sent O.broken self.old.outlet self.old.frames.items
             self.new.outlet self.new.frames.items (reply_frame reply.now)) }
+        ensures err { OnErr result (IsTrue (O.broken self.new.outlet)) }
     {
         // The memory of the frame that was not kept would stay for as long as the reply is on its way.
         self.frames.shrink_to(3 * KEPT);
-        let written = self.outlet.send_long(&mut self.frames, reply)?;
+        let written = self.outlet.send_reply(&mut self.frames, reply)?;
         self.gate.count_of(self.session, Count::Written, written);
         empty(&mut self.frames);
         Ok(())
@@ -108,6 +110,7 @@ impl<'a, O: Outlet, G: Gate> Answers<'a, O, G> {
         ensures whole { OnOk result (self.new.frames.items ≡ []) }
         ensures bytes { Goes O.sent O.broken self.old.outlet self.old.frames.items
             self.new.outlet self.new.frames.items [] }
+        ensures err { OnErr result (IsTrue (O.broken self.new.outlet)) }
     {
         if !self.frames.is_empty() {
             self.outlet.send(&self.frames)?;

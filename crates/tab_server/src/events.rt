@@ -1,17 +1,26 @@
 //! The events of one connection.
 
+ghost use Rattle.std.specs.Prelude.{◌≡◌, [], ℕ, List, OnOk};
+ghost use Rattle.tab_post.specs.Ends.{mailbox_of, received};
+ghost use Rattle.tab_proto.specs.Events.{sent_frames};
+ghost use Rattle.tab_server.specs.Forwarded.{Forwards};
+ghost use Rattle.tab_server.specs.Sending.{Goes};
+
 use crate::answers::Unwritten;
 use crate::gate::{Count, Note, Notes};
+use crate::mail::Mail;
+use crate::outlet::{Outlet, SharedSink};
 use std::alloc::Global;
 use std::io::Write;
+use std::mem;
 use tab_book::{Drained, Seat, Shared};
 use tab_etf::event_len;
 use tab_model::Item;
 use tab_post::{Host, Inbox};
-use tab_proto::{Delivery, append_item, append_overflow, write_item};
+use tab_proto::{Delivery, append_item, append_overflow};
 use tab_sink::FrameSink;
 use tab_sink::kept::{KEPT, empty};
-use tab_sink::pieces::{passes, reaches, send_pieces};
+use tab_sink::pieces::{passes, reaches};
 
 /// Sends what comes into the inbox, in order, until the session has left and nothing is left, or a write fails, or no
 /// memory is found for an event. Items that are there at once are written at once.
@@ -20,30 +29,22 @@ pub fn event_loop<H: Host, W: Write, N: Notes>(
     alloc: Global,
     shared: &Shared<H>,
     seat: &Seat,
-    inbox: &mut Inbox<H>,
+    inbox: Inbox<H>,
     sink: &FrameSink<W>,
     delivery: Delivery,
     notes: &N,
 ) {
-    let mut frames = Vec::new(alloc);
+    let mut mail = Mail::new(alloc, inbox);
     let mut events = Events {
         host,
         shared,
-        seat,
-        inbox,
-        sink,
+        seat: *seat,
+        mail: &mut mail,
+        outlet: SharedSink::new(host, sink),
         delivery,
         notes,
-        frames: &mut frames,
     };
-    for _ in host.forever() {
-        let Some(item) = events.inbox.receive() else {
-            return;
-        };
-        if events.send_from(item.item()).is_err() {
-            return;
-        }
-    }
+    let _ended = events.run();
 }
 
 /// Returns whether an item is longer than the bytes that are kept before they are sent. Only an item with records or
@@ -64,53 +65,113 @@ pub fn is_long(item: &Item) -> bool {
 
 /// The events of a session on their way to its connection.
 #[derive(Drop)]
-pub struct Events<'a, H: Host, W: Write, N: Notes> {
+pub struct Events<'a, H: Host, O: Outlet, N: Notes> {
     pub host: &'a H,
     pub shared: &'a Shared<H>,
-    pub seat: &'a Seat,
-    pub inbox: &'a mut Inbox<H>,
-    pub sink: &'a FrameSink<W>,
+    pub seat: Seat,
+    pub mail: &'a mut Mail<H>,
+    pub outlet: O,
     pub delivery: Delivery,
     pub notes: &'a N,
-    pub frames: &'a mut Vec<u8>,
 }
 
-impl<'a, H: Host, W: Write, N: Notes> Events<'a, H, W, N> {
-    /// Sends the item and all that are there after it. A post refuses only if its mailbox is full, and the items of a
-    /// full mailbox are received before the inbox is found empty. So if fewer items came than the mailbox has room for,
-    /// nothing was refused, and the book need not be asked.
-    fn send_from(&mut self, first: &Item) -> Result<(), Unwritten> {
-        self.keep(first)?;
-        self.send_waiting(1)
+impl<'a, H: Host, O: Outlet, N: Notes> Events<'a, H, O, N> {
+    /// Sends what comes into the inbox, in order, until the session has left and nothing is left, or a call fails.
+    pub fn run(&mut self) -> Result<(), Unwritten>
+        ensures sent { OnOk result
+            ((bytes : List ℕ)
+            × Forwards self.old.seat self.old.delivery (mailbox_of self.old.mail.now.inbox)
+            (received self.old.mail.now.inbox) (received self.new.mail.now.inbox) bytes
+            × Goes O.sent O.broken self.old.outlet self.old.mail.now.frames.items
+            self.new.outlet self.new.mail.now.frames.items bytes) }
+    {
+        for _ in self.host.forever() {
+            let Some(item) = self.mail.inbox.receive() else {
+                return Ok(());
+            };
+            self.keep(item.item())?;
+            self.send_waiting(1)?;
+        }
+        unreachable!()
+    }
+
+    /// Sends the item that was put aside, the kept frames, and all items that are in the inbox.
+    pub fn resume(&mut self) -> Result<(), Unwritten> {
+        let taken = mem::replace(&mut self.mail.taken, 0);
+        if let Some(item) = self.mail.long.take() {
+            self.keep(item.item())?;
+        }
+        self.send_waiting(taken)
     }
 
     /// Sends the kept frames, and all items that are in the inbox. `taken` items were received since the inbox was found
-    /// empty. If fewer items were received than the mailbox has room for, none was refused, and the book need not be asked:
-    /// `send_from` gives the reason.
-    pub fn send_waiting(&mut self, taken: usize) -> Result<(), Unwritten> {
-        let mut count = taken;
-        for _ in self.host.forever() {
-            let Some(item) = self.inbox.try_receive() else {
-                break;
-            };
-            self.keep(item.item())?;
-            count = count.saturating_add(1);
-        }
-        if count >= self.shared.outbox() {
+    /// empty. A post refuses an item only if its mailbox is full, and the items of a full mailbox are received before the
+    /// inbox is found empty. So if fewer items were received than the mailbox has room for, none was refused, and the
+    /// book need not be asked for an overflow.
+    fn send_waiting(&mut self, taken: usize) -> Result<(), Unwritten>
+        ensures sent { OnOk result
+            ((bytes : List ℕ)
+            × Forwards self.old.seat self.old.delivery (mailbox_of self.old.mail.now.inbox)
+            (received self.old.mail.now.inbox) (received self.new.mail.now.inbox) bytes
+            × Goes O.sent O.broken self.old.outlet self.old.mail.now.frames.items
+            self.new.outlet self.new.mail.now.frames.items bytes) }
+        ensures whole { OnOk result (self.new.mail.now.frames.items ≡ []) }
+        ensures mailbox { mailbox_of self.new.mail.now.inbox ≡ mailbox_of self.old.mail.now.inbox }
+        ensures seat { self.new.seat ≡ self.old.seat }
+        ensures delivery { self.new.delivery ≡ self.old.delivery }
+    {
+        let came = self.keep_waiting()?;
+        if taken.saturating_add(came) >= self.shared.outbox() {
             self.keep_rest()?;
         }
         self.send()
     }
 
-    /// Keeps the remaining items, and an overflow that was not reported yet.
-    fn keep_rest(&mut self) -> Result<(), Unwritten> {
+    /// Keeps all items that are in the inbox, and returns their number.
+    fn keep_waiting(&mut self) -> Result<usize, Unwritten>
+        ensures sent { OnOk result
+            ((bytes : List ℕ)
+            × Forwards self.old.seat self.old.delivery (mailbox_of self.old.mail.now.inbox)
+            (received self.old.mail.now.inbox) (received self.new.mail.now.inbox) bytes
+            × Goes O.sent O.broken self.old.outlet self.old.mail.now.frames.items
+            self.new.outlet self.new.mail.now.frames.items bytes) }
+        ensures mailbox { mailbox_of self.new.mail.now.inbox ≡ mailbox_of self.old.mail.now.inbox }
+        ensures seat { self.new.seat ≡ self.old.seat }
+        ensures delivery { self.new.delivery ≡ self.old.delivery }
+    {
+        let mut count: usize = 0;
         for _ in self.host.forever() {
-            match self.shared.drained(self.host, self.seat, self.inbox) {
+            let Some(item) = self.mail.inbox.try_receive() else {
+                return Ok(count);
+            };
+            self.keep(item.item())?;
+            count = count.saturating_add(1);
+        }
+        unreachable!()
+    }
+
+    /// Keeps the remaining items, and an overflow that was not reported yet.
+    fn keep_rest(&mut self) -> Result<(), Unwritten>
+        ensures sent { OnOk result
+            ((bytes : List ℕ)
+            × Forwards self.old.seat self.old.delivery (mailbox_of self.old.mail.now.inbox)
+            (received self.old.mail.now.inbox) (received self.new.mail.now.inbox) bytes
+            × Goes O.sent O.broken self.old.outlet self.old.mail.now.frames.items
+            self.new.outlet self.new.mail.now.frames.items bytes) }
+        ensures mailbox { mailbox_of self.new.mail.now.inbox ≡ mailbox_of self.old.mail.now.inbox }
+        ensures seat { self.new.seat ≡ self.old.seat }
+        ensures delivery { self.new.delivery ≡ self.old.delivery }
+    {
+        for _ in self.host.forever() {
+            match self
+                .shared
+                .drained(self.host, &self.seat, &mut self.mail.inbox)
+            {
                 Drained::Going(item) => self.keep(item.item())?,
                 Drained::Overflow(number) => {
                     self.notes
                         .note(Note::Overflowed(self.seat.session(), number));
-                    append_overflow(number, self.frames)?;
+                    append_overflow(number, &mut self.mail.frames)?;
                 }
                 Drained::AllTaken | Drained::Left => return Ok(()),
             }
@@ -119,37 +180,59 @@ impl<'a, H: Host, W: Write, N: Notes> Events<'a, H, W, N> {
     }
 
     /// Keeps an item, until some are sent at once.
-    pub fn keep(&mut self, item: &Item) -> Result<(), Unwritten> {
+    fn keep(&mut self, item: &Item) -> Result<(), Unwritten>
+        ensures bytes { OnOk result
+            (Goes O.sent O.broken self.old.outlet self.old.mail.now.frames.items self.new.outlet
+            self.new.mail.now.frames.items (sent_frames self.old.delivery item.now)) }
+        ensures inbox { self.new.mail.now.inbox ≡ self.old.mail.now.inbox }
+        ensures seat { self.new.seat ≡ self.old.seat }
+        ensures delivery { self.new.delivery ≡ self.old.delivery }
+    {
         if is_long(item) {
             self.send_long(item)?;
         } else {
-            append_item(item, self.delivery, self.frames)?;
+            append_item(item, self.delivery, &mut self.mail.frames)?;
         }
         self.notes.count_of(self.seat.session(), Count::Items, 1);
-        if self.frames.len() >= KEPT {
+        if self.mail.frames.len() >= KEPT {
             self.send()?;
         }
         Ok(())
     }
 
     /// Sends an item after those that are kept, piece by piece.
-    fn send_long(&mut self, item: &Item) -> Result<(), Unwritten> {
-        let delivery = self.delivery;
-        let written = send_pieces(self.host, self.sink, self.frames, |pieces| {
-            write_item(pieces, item, delivery)
-        })?;
+    fn send_long(&mut self, item: &Item) -> Result<(), Unwritten>
+        ensures bytes { OnOk result
+            (Goes O.sent O.broken self.old.outlet self.old.mail.now.frames.items self.new.outlet
+            self.new.mail.now.frames.items (sent_frames self.old.delivery item.now)) }
+        ensures inbox { self.new.mail.now.inbox ≡ self.old.mail.now.inbox }
+        ensures seat { self.new.seat ≡ self.old.seat }
+        ensures delivery { self.new.delivery ≡ self.old.delivery }
+    {
+        let written = self
+            .outlet
+            .send_item(&mut self.mail.frames, item, self.delivery)?;
         self.notes
             .count_of(self.seat.session(), Count::Written, written);
+        empty(&mut self.mail.frames);
         Ok(())
     }
 
     /// Sends what is kept.
-    fn send(&mut self) -> Result<(), Unwritten> {
-        self.sink.send(self.host, self.frames)?;
-        let written = self.frames.len() as u64;
+    fn send(&mut self) -> Result<(), Unwritten>
+        ensures bytes { OnOk result
+            (Goes O.sent O.broken self.old.outlet self.old.mail.now.frames.items self.new.outlet
+            self.new.mail.now.frames.items []) }
+        ensures whole { OnOk result (self.new.mail.now.frames.items ≡ []) }
+        ensures inbox { self.new.mail.now.inbox ≡ self.old.mail.now.inbox }
+        ensures seat { self.new.seat ≡ self.old.seat }
+        ensures delivery { self.new.delivery ≡ self.old.delivery }
+    {
+        self.outlet.send(&self.mail.frames)?;
+        let written = self.mail.frames.len() as u64;
         self.notes
             .count_of(self.seat.session(), Count::Written, written);
-        empty(self.frames);
+        empty(&mut self.mail.frames);
         Ok(())
     }
 }

@@ -2,11 +2,11 @@
 
 use crate::answers::Unwritten;
 use crate::dispatcher::Dispatcher;
-use crate::events::{Events, event_loop};
+use crate::events::Events;
 use crate::gate::{Count, Notes};
 use crate::mail::{Mail, Progress, Turn};
+use crate::outlet::SharedSink;
 use std::alloc::Global;
-use std::mem;
 use std::net::TcpStream;
 use std::sync::atomic::{AtomicBool, Ordering};
 use std::sync::{Condvar, Mutex, Wait};
@@ -144,19 +144,11 @@ impl<H: Host> Line<H> {
         }
     }
 
-    /// Sends all events in the connection's own thread, without the dispatcher, until `event_loop` ends.
-    pub fn send_alone<N: Notes>(&self, host: &H, alloc: Global, shared: &Shared<H>, notes: &N) {
+    /// Sends all events in the connection's own thread, without the dispatcher, until the session has left or sending
+    /// fails.
+    pub fn send_alone<N: Notes>(&self, host: &H, shared: &Shared<H>, notes: &N) {
         let mut mail = self.mail.lock(host);
-        event_loop(
-            host,
-            alloc,
-            shared,
-            &self.seat,
-            &mut mail.inbox,
-            &self.sink,
-            self.delivery,
-            notes,
-        );
+        let _ended = self.events(host, shared, &mut mail, notes).run();
     }
 
     fn send_all<N: Notes>(
@@ -166,21 +158,24 @@ impl<H: Host> Line<H> {
         mail: &mut Mail<H>,
         notes: &N,
     ) -> Result<(), Unwritten> {
-        let long = mail.long.take();
-        let taken = mem::replace(&mut mail.taken, 0);
-        let mut events = Events {
+        self.events(host, shared, mail, notes).resume()
+    }
+
+    fn events<'a, N: Notes>(
+        &'a self,
+        host: &'a H,
+        shared: &'a Shared<H>,
+        mail: &'a mut Mail<H>,
+        notes: &'a N,
+    ) -> Events<'a, H, SharedSink<'a, H, TcpStream>, N> {
+        Events {
             host,
             shared,
-            seat: &self.seat,
-            inbox: &mut mail.inbox,
-            sink: &self.sink,
+            seat: self.seat,
+            mail,
+            outlet: SharedSink::new(host, &self.sink),
             delivery: self.delivery,
             notes,
-            frames: &mut mail.frames,
-        };
-        if let Some(item) = &long {
-            events.keep(item.item())?;
         }
-        events.send_waiting(taken)
     }
 }

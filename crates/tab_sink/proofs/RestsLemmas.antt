@@ -1,11 +1,11 @@
 -- Sends, one after another.
-use Rattle.std.proofs.Common.{arith, ◌≡◌, ℕ, ◌+◌, ◌-◌, ◌≤◌, min, List, [], ◌++◌, take, drop, length, Option, refl, sym, ap, ◌∙◌, append_assoc, Result, Ok, Err}
+use Rattle.std.proofs.Common.{arith, ◌≡◌, ℕ, ◌+◌, ◌-◌, ◌≤◌, List, [], ◌++◌, take, drop, length, Option, Some, None, refl, sym, ap, ◌∙◌, append_assoc, Result, Ok, Err}
 use Rattle.std.specs.Prelude.{OnOk, OnErr}
-use Rattle.std.specs.Io.KnownBytes.{Appends, Keeps}
-use Rattle.std.proofs.lemmas.List.{length-drop, take_all, take_min, take-append-drop, take-append-le, drop-drop}
-use Rattle.std.proofs.Math.Seq.{take-append-add}
+use Rattle.std.specs.Io.KnownBytes.{Appends, Keeps, append_known}
+use Rattle.std.proofs.lemmas.List.{length-drop, take_all, take-append-drop, take-append-le, drop-drop}
+use Rattle.std.proofs.Math.Seq.{drop-append-le}
 use Rattle.tab_etf.proofs.KnownBytesLemmas.{Appends-none, Appends-keeps, Appends-then}
-use Rattle.tab_sink.specs.Rests.{Sends}
+use Rattle.tab_sink.specs.Sends.{Sends}
 
 pub sends_before : (a b : Option (List ℕ)) (x y zs : List ℕ) → Sends a x b y → Sends a (x ++ zs) b (y ++ zs)
 sends_before a b x y zs s = (s.0, s.1, ap (λ (r : List ℕ). r ++ zs) s.2 ∙ append_assoc s.0 y zs)
@@ -31,9 +31,20 @@ sends_part a b xs i n le put =
     let rest : drop n (drop i xs) ≡ drop (i + n) xs = drop-drop n i xs in
     (take n bytes, put, sym (take-append-drop n (drop i xs)) ∙ ap (λ (r : List ℕ). take n r ++ drop n (drop i xs)) (sym whole) ∙ ap (λ (r : List ℕ). take n bytes ++ r) rest)
 
--- a beginning of the rest, and the rest with a beginning of the frames, as beginnings of both
-pub begun_rest : (rest frames : List ℕ) (n : ℕ) → take (min n (length rest)) (rest ++ frames) ≡ take n rest
-begun_rest rest frames n = take-append-le (min n (length rest)) rest frames (omega arith) ∙ take_min n rest
+-- what was sent of the rest is a beginning of it and of what follows it
+pub sent_begins : (rest p left frames : List ℕ) → rest ≡ p ++ left → take (length p) (rest ++ frames) ≡ p
+sent_begins rest p left frames e =
+    ap (λ (r : List ℕ). take (length p) (r ++ frames)) e ∙ ap (λ (r : List ℕ). take (length p) r) (append_assoc p left frames)
+    ∙ take-append-le (length p) p (left ++ frames) (omega arith) ∙ take_all (length p) p (omega arith)
+
+pub drop_longer : (n : ℕ) (xs ys : List ℕ) → n ≤ length xs → drop n (xs ++ ys) ≡ drop n xs ++ ys
+drop_longer n xs ys le = drop-append-le n xs ys le
+
+-- ---- the bytes that are written, and then those that remain
+
+pub given_more : (a : Option (List ℕ)) (rest more bytes : List ℕ) → more ≡ rest ++ bytes → Appends (append_known a rest) (append_known a more) bytes
+given_more None rest more bytes e = tt
+given_more (Some x) rest more bytes e = ap (λ (r : List ℕ). x ++ r) e ∙ sym (append_assoc x rest bytes)
 
 pub on_ok_both : {A E : Type 0} {P N Q : Type 0} (r : Result A E) → OnOk r P → OnOk r N → (P → N → Q) → OnOk r Q
 on_ok_both (Ok x) p n f = f p n

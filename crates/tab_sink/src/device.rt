@@ -54,7 +54,7 @@ impl<W> Device<W> {
         }
     }
 
-    fn fault(&mut self) -> Broken
+    pub(crate) fn fault(&mut self) -> Broken
         ensures faults { self.new.faults ≡ min (self.old.faults + 1) u64.MAX }
         ensures inner { self.new.inner ≡ self.old.inner }
     {

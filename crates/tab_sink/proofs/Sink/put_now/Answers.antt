@@ -1,5 +1,6 @@
-use Rattle.std.proofs.Common.{◌≡◌, ◌+◌, ◌++◌, min, refl, sym, ap, ◌∙◌, subst, append-nil}
-use Rattle.tab_sink.specs.Rests.{rest_of, Sends}
+use Rattle.std.proofs.Common.{◌+◌, ◌++◌, min, sym, ap, ◌∙◌, subst, append-nil}
+use Rattle.tab_sink.specs.Rests.{rest_of}
+use Rattle.tab_sink.specs.Sends.{Sends}
 use Rattle.tab_sink.proofs.RestsLemmas.{sends_before, sends_both, on_ok_both, on_err_then, on_err_any}
 use Rattle.tab_sink.proofs.Sink.put_now.Goals as goal
 

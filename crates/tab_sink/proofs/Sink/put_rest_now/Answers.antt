@@ -1,6 +1,7 @@
-use Rattle.std.proofs.Common.{◌≡◌, ◌+◌, ◌-◌, take, drop, length, refl, sym, ◌∙◌, subst}
+use Rattle.std.proofs.Common.{◌+◌, ◌-◌, take, drop, length, refl, sym, ◌∙◌, subst}
 use Rattle.std.specs.Io.KnownBytes.{Appends}
-use Rattle.tab_sink.specs.Rests.{rest_of, Sends}
+use Rattle.tab_sink.specs.Rests.{rest_of}
+use Rattle.tab_sink.specs.Sends.{Sends}
 use Rattle.tab_sink.proofs.RestsLemmas.{sends_none, sends_part}
 use Rattle.tab_sink.proofs.Sink.put_rest_now.Goals as goal
 

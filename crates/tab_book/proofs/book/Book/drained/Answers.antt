@@ -5,3 +5,13 @@ use Rattle.tab_book.proofs.book.Book.drained.Goals as goal
 
 pub returns-clause-running : goal.returns-clause-running
 returns-clause-running g c = subst IsRunning c.self.view_is (running (length c.self.inside.prefix) c.self.inside.core c.self.inside.journal c.self.invariant)
+
+pub returns-clause-of_a_running_book : goal.returns-clause-of_a_running_book
+returns-clause-of_a_running_book g c =
+    record {
+      book = c.args.self.now;
+      next = c.self.now;
+      runs = c.journal.ensures.running;
+      drains = c.next_at.ensures.drained;
+      runs_on = subst IsRunning c.self.view_is (running (length c.self.inside.prefix) c.self.inside.core c.self.inside.journal c.self.invariant);
+    }
