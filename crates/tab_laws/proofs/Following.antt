@@ -32,7 +32,7 @@ age_of (Some t) a h = h
 one_age : (o : Option Transaction) (a b : ℕ) → HasAge o a → HasAge o b → a ≡ b
 one_age o a b h k = sym (age_of o a h) ∙ age_of o b k
 
-opened : (o : Option Transaction) (a : ℕ) → HasAge o a → is_some o ≡ true
+pub opened : (o : Option Transaction) (a : ℕ) → HasAge o a → is_some o ≡ true
 opened None a h = absurd h
 opened (Some t) a h = refl
 

@@ -59,10 +59,10 @@ run_rising : (σ : State) (calls : List Call) → IsSound σ → IsRising σ →
 run_rising σ [] sound rise = rise
 run_rising σ (c ∷ calls) sound rise = run_rising (outcome_of σ c).state calls (step_sound σ c.over c.session c.ask sound) (step_rising σ c.over c.session c.ask sound rise)
 
-reached_sound : (limits : Limits) (calls : List Call) → IsSound (after_all (new limits) calls)
+pub reached_sound : (limits : Limits) (calls : List Call) → IsSound (after_all (new limits) calls)
 reached_sound limits calls = run_sound (new limits) calls (new_sound limits)
 
-reached_rising : (limits : Limits) (calls : List Call) → IsRising (after_all (new limits) calls)
+pub reached_rising : (limits : Limits) (calls : List Call) → IsRising (after_all (new limits) calls)
 reached_rising limits calls = run_rising (new limits) calls (new_sound limits) (new_rising limits)
 
 -- the same of every reached state

@@ -7,6 +7,7 @@ ghost use Rattle.tab_model.specs.Outcome.{outcome};
 ghost use Rattle.tab_model.specs.Reached.{IsRising};
 ghost use Rattle.tab_model.specs.Run.{Call, after_all};
 ghost use Rattle.tab_model.specs.State.{State, new, is_waiting, IsSound};
+ghost use Rattle.tab_laws.specs.Endings.{CanEnd};
 ghost use Rattle.tab_laws.specs.Progress.{RetryIsGranted, CanGoOn, LeadsOn, HasOnlyTransaction};
 
 /// A law: never do all sessions wait for one another. From each session that waits, a chain of waits leads to a session
@@ -38,4 +39,12 @@ pub fn the_only_transaction_is_granted()
     ensures reached { (limits : Limits) (calls : List Call) (n : ℕ) →
         let σ = after_all (new limits) calls in
         IsTrue (is_waiting σ n) → HasOnlyTransaction n σ → RetryIsGranted σ n }
+{}
+
+/// A law: no wait needs an abort or a restart to end. From every reached state in which a session waits, some run of retries
+/// and commits ends its wait.
+pub fn every_wait_can_end()
+    ensures { (limits : Limits) (calls : List Call) (n : ℕ) →
+        let σ = after_all (new limits) calls in
+        IsTrue (is_waiting σ n) → CanEnd σ n }
 {}
