@@ -44,9 +44,9 @@ opposed_as r b (l ∷ ls) h =
     (λ e. or_left (opposes_as r b (b, l)) _ (and_from (opposes r (b, l)) (b == b) e (itself b)))
     (λ e. or_right (opposes_as r b (b, l)) _ (opposed_as r b ls e))
 
--- what a session holds is held
-held_in : (p : Owned → Bool) (sessions : List Session) (m : ℕ) → list_any p (locks_held_by (transaction_in (session_at sessions m))) ≡ true → list_any p (locks_held_in sessions) ≡ true
-held_in p sessions m h = true_of (list_any p (locks_held_in sessions)) (λ e. sym h ∙ held_none p sessions m e)
+-- a session's locks are among those of all sessions
+among_all : (p : Owned → Bool) (sessions : List Session) (m : ℕ) → list_any p (locks_held_by (transaction_in (session_at sessions m))) ≡ true → list_any p (locks_held_in sessions) ≡ true
+among_all p sessions m h = true_of (list_any p (locks_held_in sessions)) (λ e. sym h ∙ held_none p sessions m e)
 
 -- a request of the queue before r's that opposes it
 record Earlier (f : ℕ → Option Transaction) (r : Owned) (qs : List Queued) : Type 0 where
@@ -92,7 +92,7 @@ earlier f r (q ∷ qs) o h = cases (q.age == r.0) refl h (earlier f r qs o.1)
         either_one (Earlier f r (q ∷ qs)) (opposes r x) (list_any (opposes r) (before r.0 (locks_queued_in qs))) g (this e)
         (λ k. more e (ih k))
 
--- a session that a request waits for: it waits too, or a lock that it holds opposes the request
+-- a session that a queued request waits for: it waits too, or a lock of its transaction opposes the request
 record Awaited (σ : State) (q : Queued) : Type 0 where
   session : ℕ
   age : ℕ
@@ -100,7 +100,7 @@ record Awaited (σ : State) (q : Queued) : Type 0 where
   waits : WaitsFor (ages_of σ) q.age age
   by : (is_waiting σ session ≡ true) ⊎ (list_any (opposes (q.age, needs q.operation)) (locks_held_by (transaction_at σ session)) ≡ true)
 
--- the age of a chain's first wait, and what follows it
+-- a chain of waits leads from an age to a session that can go on
 record Reaches (σ : State) (a : ℕ) : Type 0 where
   session : ℕ
   path : List ℕ
@@ -143,7 +143,7 @@ module _ (σ : State) (sound : IsSound σ) (rise : IsRising σ) where
               age = t.age;
               aged = subst (λ (o : Option Transaction). HasAge o t.age) (sym here) refl;
               waits = waits_for t.age (list_any-append (opposes_as (q.age, needs q.operation) t.age) (locks_held_in σ.sessions) (before q.age (locks_queued_in σ.queue))
-                  ∙ or_left _ _ (held_in (opposes_as (q.age, needs q.operation) t.age) σ.sessions k.slot.number
+                  ∙ or_left _ _ (among_all (opposes_as (q.age, needs q.operation) t.age) σ.sessions k.slot.number
                   (ap (λ (o : Option Transaction). list_any (opposes_as (q.age, needs q.operation) t.age) (locks_held_by o)) here ∙ opposed_as (q.age, needs q.operation) t.age (locks_of t.moves) h)));
               by = inr (ap (λ (o : Option Transaction). list_any (opposes (q.age, needs q.operation)) (locks_held_by o)) here ∙ h);
             }
@@ -157,7 +157,7 @@ module _ (σ : State) (sound : IsSound σ) (rise : IsRising σ) where
       by = inl i.waiting;
     }
 
-    -- what no retry grants waits for a session
+    -- a request that no retry grants waits for a session
     awaited : can_retry (ages_of σ) (q.age, needs q.operation) ≡ false → Awaited σ q
     awaited h =
         either_one (Awaited σ q) (list_any (opposes (q.age, needs q.operation)) (locks_held_in σ.sessions)) (list_any (opposes (q.age, needs q.operation)) (before q.age (locks_queued_in σ.queue)))
@@ -165,9 +165,9 @@ module _ (σ : State) (sound : IsSound σ) (rise : IsRising σ) where
         (λ e. by_holder (held_some (opposes (q.age, needs q.operation)) σ.sessions sound.distinct e))
         (λ e. by_request (earlier (transaction_at σ) (q.age, needs q.operation) σ.queue rise.owners e))
 
-    -- where no other has a transaction, a retry is granted
-    alone : HasOnlyTransaction n σ → can_retry (ages_of σ) (q.age, needs q.operation) ≡ true
-    alone only = cases (can_retry (ages_of σ) (q.age, needs q.operation)) refl
+    -- if no other session has a transaction, a retry is granted
+    sole : HasOnlyTransaction n σ → can_retry (ages_of σ) (q.age, needs q.operation) ≡ true
+    sole only = cases (can_retry (ages_of σ) (q.age, needs q.operation)) refl
       where
         other : (w : Awaited σ q) (b : Bool) → (w.session == n) ≡ b → ⊥
         other w true e =
@@ -184,7 +184,7 @@ module _ (σ : State) (sound : IsSound σ) (rise : IsRising σ) where
   longer : (a b : ℕ) → WaitsFor (ages_of σ) a b → Reaches σ b → Reaches σ a
   longer a b w c = record { session = c.session; path = b ∷ c.path; waits = (w, c.waits); last = c.last; goes_on = c.goes_on }
 
-  -- each request within k of the next age leads on
+  -- each queued request whose age is at most k below the next one leads on
   abbrev Within : ℕ → Type 0
   Within k = (n : ℕ) (q : Queued) → request_in σ.queue n ≡ Some q → σ.next_age ≤ q.age + k → Reaches σ q.age
 
@@ -234,4 +234,4 @@ leads_on σ n sound rise waiting =
 pub only_granted : (σ : State) (n : ℕ) → IsSound σ → IsRising σ → is_waiting σ n ≡ true → HasOnlyTransaction n σ → RetryIsGranted σ n
 only_granted σ n sound rise waiting only =
     let first = some_of Queued (request_in σ.queue n) waiting in
-    record { request = first.0; is = first.1; granted = alone σ sound rise n first.0 first.1 only }
+    record { request = first.0; is = first.1; granted = sole σ sound rise n first.0 first.1 only }

@@ -41,10 +41,10 @@ pub fn the_only_transaction_is_granted()
         IsTrue (is_waiting σ n) → HasOnlyTransaction n σ → RetryIsGranted σ n }
 {}
 
-/// A law: no wait needs an abort or a restart to end. From every reached state in which a session waits, some run of retries
-/// and commits ends its wait.
-pub fn every_wait_can_end()
-    ensures { (limits : Limits) (calls : List Call) (n : ℕ) →
-        let σ = after_all (new limits) calls in
-        IsTrue (is_waiting σ n) → CanEnd σ n }
+/// A law: no transaction needs an abort or a restart to end. From every reached state, some run of retries and commits leads
+/// to a state in which no session waits and no transaction is open. The same is true of each state that has what every step
+/// keeps.
+pub fn all_transactions_can_end()
+    ensures can_end { (σ : State) → IsSound σ → IsRising σ → CanEnd σ }
+    ensures reached { (limits : Limits) (calls : List Call) → CanEnd (after_all (new limits) calls) }
 {}

@@ -4,4 +4,4 @@
 
 mod laws;
 
-pub use laws::{every_wait_can_end, the_only_transaction_is_granted, waits_lead_to_progress};
+pub use laws::{all_transactions_can_end, the_only_transaction_is_granted, waits_lead_to_progress};
