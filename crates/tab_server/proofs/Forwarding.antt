@@ -1,5 +1,6 @@
 -- Items and overflows that are sent, one after another.
-use Rattle.std.proofs.Common.{◌≡◌, inl, inr, ℕ, List, [], ◌∷◌, ◌++◌, refl, sym, ap, ◌∙◌, append_assoc, append-nil, subst}
+use Rattle.std.specs.Io.KnownBytes.{Appends, append_known}
+use Rattle.std.proofs.Common.{◌≡◌, Bool, Option, None, Some, inl, inr, ℕ, List, [], ◌∷◌, ◌++◌, refl, sym, ap, ◌∙◌, append_assoc, append-nil, subst}
 use Rattle.tab_term.specs.Canon.{canon}
 use Rattle.tab_etf.specs.Frames.{frame}
 use Rattle.tab_model.specs.declared.data.Item.{Item}
@@ -10,6 +11,8 @@ use Rattle.tab_proto.specs.Replies.{reply_term}
 use Rattle.tab_book.specs.declared.step.Drained.TheVariants.{Overflow}
 use Rattle.tab_book.specs.Inboxes.{IsDrained}
 use Rattle.tab_server.specs.Forwarded.{Part, part_frames, Come, Forwards}
+use Rattle.tab_server.specs.Laws.{goes_none, goes_then}
+use Rattle.tab_server.specs.Sending.{Goes}
 
 pub frames_then : (d : Delivery) (ps qs : List Part) → part_frames d (ps ++ qs) ≡ part_frames d ps ++ part_frames d qs
 frames_then d [] qs = refl
@@ -48,3 +51,39 @@ module _ (n : ℕ) (d : Delivery) (m : ℕ) where
     come = come_then a b c h.parts k.parts h.come k.come;
     frames_are = ap (λ r. r ++ more) h.frames_are ∙ ap (λ r. part_frames d h.parts ++ r) k.frames_are ∙ sym (frames_then d h.parts k.parts);
   }
+
+-- some frames are kept
+pub goes_kept : {O : Type 0} (sent : O → Option (List ℕ)) (broken : O → Bool) (o : O) (x y bytes : List ℕ) → y ≡ x ++ bytes → Goes sent broken o x o y bytes
+goes_kept {O} sent broken o x y bytes e whole = (whole, more (sent o))
+  where
+    more : (a : Option (List ℕ)) → Appends (append_known a x) (append_known a y) bytes
+    more None = tt
+    more (Some w) = ap (λ r. w ++ r) e ∙ sym (append_assoc w x bytes)
+
+module _ {O : Type 0} (sent : O → Option (List ℕ)) (broken : O → Bool) (n : ℕ) (d : Delivery) (m : ℕ) where
+  -- what was received is sent or kept
+  abbrev pub Passes : List Item → O → List ℕ → List Item → O → List ℕ → Type 0
+  Passes before a x after b y = (bytes : List ℕ) × Forwards n d m before after bytes × Goes sent broken a x b y bytes
+
+  pub passes_none : (before : List Item) (a : O) (x : List ℕ) → Passes before a x before a x
+  passes_none before a x = ([], forwards_none n d m before before refl, goes_none sent broken a x)
+
+  pub passes_item : (before after : List Item) (a b : O) (x y : List ℕ) (i : Item) → after ≡ before ++ i ∷ [] → Goes sent broken a x b y (sent_frames d i) → Passes before a x after b y
+  passes_item before after a b x y i taken goes = (sent_frames d i, forwards_item n d m before after i taken, goes)
+
+  pub passes_overflow : (before after : List Item) (a : O) (x y : List ℕ) (c : ℕ) → after ≡ before → IsDrained n m before (Overflow c) after
+      → Goes sent broken a x a y (frame (131 ∷ canon (reply_term (reply.Overflow c)))) → Passes before a x after a y
+  passes_overflow before after a x y c same is goes = (frame (131 ∷ canon (reply_term (reply.Overflow c))), forwards_overflow n d m before after c same is, goes)
+
+  pub passes_kept : (before after : List Item) (a b : O) (x y : List ℕ) → after ≡ before → Goes sent broken a x b y [] → Passes before a x after b y
+  passes_kept before after a b x y same goes = ([], forwards_none n d m before after same, goes)
+
+  pub passes_then : (r s t : List Item) (a b c : O) (x y z : List ℕ) → Passes r a x s b y → Passes s b y t c z → Passes r a x t c z
+  passes_then r s t a b c x y z h k =
+      (h.0 ++ k.0, forwards_then n d m r s t h.0 k.0 h.1 k.1, goes_then sent broken a b c x y z h.0 k.0 h.2 k.2)
+
+-- the same for an equal session, delivery and mailbox
+pub passes_at : {O : Type 0} (sent : O → Option (List ℕ)) (broken : O → Bool) (n k : ℕ) (d e : Delivery) (m l : ℕ) (before : List Item) (a : O) (x : List ℕ) (after : List Item) (b : O) (y : List ℕ)
+    → k ≡ n → e ≡ d → l ≡ m → Passes sent broken k e l before a x after b y → Passes sent broken n d m before a x after b y
+passes_at {O} sent broken n k d e m l before a x after b y sn sd sm h =
+    (h.0, subst (λ i. Forwards n d i before after h.0) sm (subst (λ i. Forwards n i l before after h.0) sd (subst (λ i. Forwards i e l before after h.0) sn h.1)), h.2)

@@ -1,4 +1,5 @@
 pub mod Answering
 pub mod Crossing
+pub mod Forwarding
 pub mod Gathering
 pub mod Serving

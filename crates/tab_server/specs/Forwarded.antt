@@ -1,5 +1,6 @@
 -- How a session's items, and its overflows, go to its client (this project's own rules).
-use Rattle.std.specs.Prelude.{◌≡◌, ◌⊎◌, inl, inr, ℕ, List, [], ◌∷◌, ◌++◌}
+use Rattle.std.proofs.Common.{inl, inr}
+use Rattle.std.specs.Prelude.{◌≡◌, ◌⊎◌, ℕ, List, [], ◌∷◌, ◌++◌}
 use Rattle.tab_term.specs.Canon.{canon}
 use Rattle.tab_etf.specs.Frames.{frame}
 use Rattle.tab_model.specs.declared.data.Item.{Item}
