@@ -1,6 +1,7 @@
 -- Items and overflows that are sent, one after another.
 use Rattle.std.specs.Io.KnownBytes.{Appends, append_known}
-use Rattle.std.proofs.Common.{◌≡◌, Bool, Option, None, Some, inl, inr, ℕ, List, [], ◌∷◌, ◌++◌, refl, sym, ap, ◌∙◌, append_assoc, append-nil, subst}
+use Rattle.std.proofs.lemmas.List.{length-append}
+use Rattle.std.proofs.Common.{◌≡◌, ◌⊎◌, ◌+◌, ◌<◌, arith, length, min, Bool, Option, None, Some, inl, inr, ℕ, List, [], ◌∷◌, ◌++◌, refl, sym, ap, ◌∙◌, append_assoc, append-nil, subst}
 use Rattle.tab_term.specs.Canon.{canon}
 use Rattle.tab_etf.specs.Frames.{frame}
 use Rattle.tab_model.specs.declared.data.Item.{Item}
@@ -8,9 +9,9 @@ use Rattle.tab_model.specs.declared.data.Reply.TheVariants as reply
 use Rattle.tab_proto.specs.declared.events.Delivery.{Delivery}
 use Rattle.tab_proto.specs.Events.{sent_frames}
 use Rattle.tab_proto.specs.Replies.{reply_term}
-use Rattle.tab_book.specs.declared.step.Drained.TheVariants.{Overflow}
+use Rattle.tab_book.specs.declared.step.Drained.TheVariants.{AllTaken, Overflow, Left}
 use Rattle.tab_book.specs.Inboxes.{IsDrained}
-use Rattle.tab_server.specs.Forwarded.{Part, part_frames, Come, Forwards}
+use Rattle.tab_server.specs.Forwarded.{Part, part_frames, Come, Forwards, NothingLeft}
 use Rattle.tab_server.specs.Laws.{goes_none, goes_then}
 use Rattle.tab_server.specs.Sending.{Goes}
 
@@ -87,3 +88,27 @@ pub passes_at : {O : Type 0} (sent : O → Option (List ℕ)) (broken : O → Bo
     → k ≡ n → e ≡ d → l ≡ m → Passes sent broken k e l before a x after b y → Passes sent broken n d m before a x after b y
 passes_at {O} sent broken n k d e m l before a x after b y sn sd sm h =
     (h.0, subst (λ i. Forwards n d i before after h.0) sm (subst (λ i. Forwards n i l before after h.0) sd (subst (λ i. Forwards i e l before after h.0) sn h.1)), h.2)
+
+-- ---- how many items came
+
+pub one_more : (first old new : List Item) (i : Item) (count next : ℕ) → new ≡ old ++ i ∷ [] → (count < 18446744073709551615 → length old ≡ length first + count) → next ≡ min (count + 1) 18446744073709551615
+    → next < 18446744073709551615 → length new ≡ length first + next
+one_more first old new i count next taken so is less =
+    let more : length new ≡ length old + 1 = ap length taken ∙ length-append old (i ∷ []) in
+    let small : count < 18446744073709551615 = omega (arith, is, less) in
+    let before = so small in
+    omega (arith, is, less, more, before)
+
+pub nothing_at : (n k m l : ℕ) (xs ys : List Item) → k ≡ n → l ≡ m → xs ≡ ys → NothingLeft k l xs → NothingLeft n m ys
+nothing_at n k m l xs ys sn sm sx h =
+    subst (λ zs. NothingLeft n m zs) sx (subst (λ i. NothingLeft n i xs) sm (subst (λ i. NothingLeft i l xs) sn h))
+
+-- nothing is left, or fewer items came than the mailbox has room for
+pub ended : (n k m l : ℕ) (first old new : List Item) (taken came room room' : ℕ) → k ≡ n → l ≡ m → (came < 18446744073709551615 → length old ≡ length first + came) → room' ≡ room
+    → (P : Type 0) → (mid : List Item) → (P → mid ≡ old) → NothingLeft k l mid ⊎ (taken + came < room') × (came < 18446744073709551615) × P → new ≡ mid
+    → NothingLeft n m new ⊎ (taken + length new < length first + room)
+ended n k m l first old new taken came room room' sn sm so sr P mid same (inl none) e = inl (nothing_at n k m l mid new sn sm (sym e) none)
+ended n k m l first old new taken came room room' sn sm so sr P mid same (inr (less, small, p)) e =
+    let before = so small in
+    let count = ap length (e ∙ same p) in
+    inr (omega (arith, less, before, count, sr))

@@ -1,9 +1,9 @@
 //! The events of one connection.
 
-ghost use Rattle.std.specs.Prelude.{◌≡◌, [], ℕ, List, OnOk};
+ghost use Rattle.std.specs.Prelude.{◌≡◌, ◌⊎◌, ◌+◌, ◌<◌, [], ℕ, List, length, IfOk, OnOk};
 ghost use Rattle.tab_post.specs.Ends.{mailbox_of, received};
 ghost use Rattle.tab_proto.specs.Events.{sent_frames};
-ghost use Rattle.tab_server.specs.Forwarded.{Forwards};
+ghost use Rattle.tab_server.specs.Forwarded.{Forwards, NothingLeft};
 ghost use Rattle.tab_server.specs.Sending.{Goes};
 
 use crate::answers::Unwritten;
@@ -118,14 +118,19 @@ impl<'a, H: Host, O: Outlet, N: Notes> Events<'a, H, O, N> {
         ensures mailbox { mailbox_of self.new.inbox.now ≡ mailbox_of self.old.inbox.now }
         ensures seat { self.new.seat ≡ self.old.seat }
         ensures delivery { self.new.delivery ≡ self.old.delivery }
+        ensures end { OnOk result
+            (NothingLeft self.old.seat (mailbox_of self.old.inbox.now)
+            (received self.new.inbox.now)
+            ⊎ (taken + length (received self.new.inbox.now)
+            < length (received self.old.inbox.now) + self.old.shared.now.outbox)) }
     {
         let came = self.keep_waiting()?;
-        self.keep_missed(taken.saturating_add(came))?;
+        self.keep_missed(taken, came)?;
         self.send()
     }
 
     /// Keeps the remaining items and an overflow, if so many items were received that an item may have been refused.
-    fn keep_missed(&mut self, count: usize) -> Result<(), Unwritten>
+    fn keep_missed(&mut self, taken: usize, came: usize) -> Result<(), Unwritten>
         ensures sent { OnOk result
             ((bytes : List ℕ)
             × Forwards self.old.seat self.old.delivery (mailbox_of self.old.inbox.now)
@@ -135,8 +140,12 @@ impl<'a, H: Host, O: Outlet, N: Notes> Events<'a, H, O, N> {
         ensures mailbox { mailbox_of self.new.inbox.now ≡ mailbox_of self.old.inbox.now }
         ensures seat { self.new.seat ≡ self.old.seat }
         ensures delivery { self.new.delivery ≡ self.old.delivery }
+        ensures end { OnOk result
+            (NothingLeft self.old.seat (mailbox_of self.old.inbox.now)
+            (received self.new.inbox.now)
+            ⊎ (taken + came < self.old.shared.now.outbox) × (came < u64.MAX) × (self.new.inbox.now ≡ self.old.inbox.now)) }
     {
-        if count < self.shared.outbox() {
+        if taken.saturating_add(came) < self.shared.outbox() {
             return Ok(());
         }
         self.keep_rest()
@@ -153,6 +162,10 @@ impl<'a, H: Host, O: Outlet, N: Notes> Events<'a, H, O, N> {
         ensures mailbox { mailbox_of self.new.inbox.now ≡ mailbox_of self.old.inbox.now }
         ensures seat { self.new.seat ≡ self.old.seat }
         ensures delivery { self.new.delivery ≡ self.old.delivery }
+        ensures count { IfOk result
+            (λ n. n < u64.MAX → length (received self.new.inbox.now)
+            ≡ length (received self.old.inbox.now) + n) }
+        ensures shared { self.new.shared ≡ self.old.shared }
     {
         let mut count: usize = 0;
         for _ in self.host.forever() {
@@ -176,6 +189,9 @@ impl<'a, H: Host, O: Outlet, N: Notes> Events<'a, H, O, N> {
         ensures mailbox { mailbox_of self.new.inbox.now ≡ mailbox_of self.old.inbox.now }
         ensures seat { self.new.seat ≡ self.old.seat }
         ensures delivery { self.new.delivery ≡ self.old.delivery }
+        ensures end { OnOk result
+            (NothingLeft self.old.seat (mailbox_of self.old.inbox.now)
+            (received self.new.inbox.now)) }
     {
         for _ in self.host.forever() {
             match self.shared.drained(self.host, &self.seat, self.inbox) {
@@ -196,6 +212,7 @@ impl<'a, H: Host, O: Outlet, N: Notes> Events<'a, H, O, N> {
         ensures bytes { OnOk result
             (Goes O.sent O.broken self.old.outlet self.old.frames.now.items self.new.outlet
             self.new.frames.now.items (sent_frames self.old.delivery item.now)) }
+        ensures shared { self.new.shared ≡ self.old.shared }
         ensures inbox { self.new.inbox.now ≡ self.old.inbox.now }
         ensures seat { self.new.seat ≡ self.old.seat }
         ensures delivery { self.new.delivery ≡ self.old.delivery }
@@ -217,6 +234,7 @@ impl<'a, H: Host, O: Outlet, N: Notes> Events<'a, H, O, N> {
         ensures bytes { OnOk result
             (Goes O.sent O.broken self.old.outlet self.old.frames.now.items self.new.outlet
             self.new.frames.now.items (sent_frames self.old.delivery item.now)) }
+        ensures shared { self.new.shared ≡ self.old.shared }
         ensures inbox { self.new.inbox.now ≡ self.old.inbox.now }
         ensures seat { self.new.seat ≡ self.old.seat }
         ensures delivery { self.new.delivery ≡ self.old.delivery }
@@ -234,6 +252,7 @@ impl<'a, H: Host, O: Outlet, N: Notes> Events<'a, H, O, N> {
             (Goes O.sent O.broken self.old.outlet self.old.frames.now.items self.new.outlet
             self.new.frames.now.items []) }
         ensures whole { OnOk result (self.new.frames.now.items ≡ []) }
+        ensures shared { self.new.shared ≡ self.old.shared }
         ensures inbox { self.new.inbox.now ≡ self.old.inbox.now }
         ensures seat { self.new.seat ≡ self.old.seat }
         ensures delivery { self.new.delivery ≡ self.old.delivery }
