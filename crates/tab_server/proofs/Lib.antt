@@ -2,4 +2,5 @@ pub mod Answering
 pub mod Crossing
 pub mod Forwarding
 pub mod Gathering
+pub mod Placing
 pub mod Serving

@@ -4,3 +4,4 @@ pub mod Sending
 pub mod Serving
 pub mod Sent
 pub mod Laws
+pub mod Placed
