@@ -4,3 +4,4 @@ pub mod Forwarding
 pub mod Gathering
 pub mod Placing
 pub mod Serving
+pub mod Streaming

@@ -5,3 +5,4 @@ pub mod Serving
 pub mod Sent
 pub mod Laws
 pub mod Placed
+pub mod Streamed
