@@ -9,7 +9,7 @@ use Rattle.tab_model.specs.declared.data.Reply.TheVariants as reply
 use Rattle.tab_proto.specs.declared.events.Delivery.{Delivery}
 use Rattle.tab_proto.specs.Events.{sent_frames}
 use Rattle.tab_proto.specs.Replies.{reply_term}
-use Rattle.tab_book.specs.declared.step.Drained.TheVariants.{AllTaken, Overflow, Left}
+use Rattle.tab_book.specs.declared.step.Drained.TheVariants.{Overflow}
 use Rattle.tab_book.specs.Inboxes.{IsDrained}
 use Rattle.tab_server.specs.Forwarded.{Part, part_frames, Come, Forwards, NothingLeft}
 use Rattle.tab_server.specs.Laws.{goes_none, goes_then}

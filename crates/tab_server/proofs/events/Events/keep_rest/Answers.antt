@@ -1,4 +1,4 @@
-use Rattle.std.proofs.Common.{◌≡◌, ◌∙◌, refl, sym, ap, subst, ℕ, List}
+use Rattle.std.proofs.Common.{◌∙◌, refl, ap, subst, ℕ, List}
 use Rattle.tab_model.specs.declared.data.Item.{Item}
 use Rattle.tab_post.specs.Ends.{mailbox_of, received}
 use Rattle.tab_proto.specs.declared.events.Delivery.{Delivery}

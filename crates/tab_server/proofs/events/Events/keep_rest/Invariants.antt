@@ -1,4 +1,4 @@
-use Rattle.std.proofs.Common.{◌≡◌, ℕ, List}
+use Rattle.std.proofs.Common.{◌≡◌}
 use Rattle.tab_post.specs.Ends.{mailbox_of, received}
 use Rattle.tab_server.proofs.Forwarding.{Passes}
 use Rattle.tab_server.proofs.events.Events.keep_rest.Given as goal

@@ -1,10 +1,8 @@
-use Rattle.std.proofs.Common.{◌≡◌, ◌∙◌, refl, ap, subst, arith, ℕ, List}
+use Rattle.std.proofs.Common.{◌∙◌, refl, ap, subst, arith, ℕ, List}
 use Rattle.tab_model.specs.declared.data.Item.{Item}
 use Rattle.tab_post.specs.Ends.{mailbox_of, received}
 use Rattle.tab_proto.specs.declared.events.Delivery.{Delivery}
 use Rattle.tab_proto.specs.Events.{sent_frames}
-use Rattle.tab_book.specs.declared.step.Drained.TheVariants.{Overflow}
-use Rattle.tab_book.specs.Inboxes.{IsDrained}
 use Rattle.tab_server.specs.Sending.{Goes}
 use Rattle.tab_server.proofs.Forwarding.{one_more, passes_none, passes_item, passes_then}
 use Rattle.tab_server.proofs.events.Events.keep_waiting.Goals as goal

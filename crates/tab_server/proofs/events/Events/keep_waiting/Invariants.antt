@@ -1,4 +1,4 @@
-use Rattle.std.proofs.Common.{◌≡◌, ◌+◌, ◌<◌, ℕ, List, length}
+use Rattle.std.proofs.Common.{◌≡◌, ◌+◌, ◌<◌, length}
 use Rattle.tab_post.specs.Ends.{mailbox_of, received}
 use Rattle.tab_server.proofs.Forwarding.{Passes}
 use Rattle.tab_server.proofs.events.Events.keep_waiting.Given as goal

@@ -1,4 +1,4 @@
-use Rattle.std.proofs.Common.{◌≡◌, ◌∙◌, ap}
+use Rattle.std.proofs.Common.{◌≡◌, ap}
 use Rattle.tab_post.specs.Ends.{mailbox_of, received}
 use Rattle.tab_server.proofs.Answering.{on_ok}
 use Rattle.tab_server.proofs.Forwarding.{ended, passes_at, passes_kept, passes_then}
