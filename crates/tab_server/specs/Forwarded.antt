@@ -1,6 +1,6 @@
 -- How a session's items, and its overflows, go to its client (this project's own rules).
 use Rattle.std.proofs.Common.{inl, inr}
-use Rattle.std.specs.Prelude.{◌≡◌, ◌⊎◌, ℕ, List, [], ◌∷◌, ◌++◌}
+use Rattle.std.specs.Prelude.{◌≡◌, ◌⊎◌, ℕ, List, [], ◌∷◌, ◌++◌, Option, None, Some}
 use Rattle.tab_term.specs.Canon.{canon}
 use Rattle.tab_etf.specs.Frames.{frame}
 use Rattle.tab_model.specs.declared.data.Item.{Item}
@@ -36,3 +36,8 @@ pub record Forwards (n : ℕ) (d : Delivery) (mailbox : ℕ) (before after : Lis
 -- a running book shows that nothing is left of what the session was sent: all items are received, and each overflow is reported
 abbrev pub NothingLeft : ℕ → ℕ → List Item → Type 0
 NothingLeft n mailbox received = IsDrained n mailbox received AllTaken received ⊎ IsDrained n mailbox received Left received
+
+-- the frames of an item that was put aside, if there is one
+abbrev pub aside_frames : Delivery → Option Item → List ℕ
+aside_frames d None = []
+aside_frames d (Some x) = sent_frames d x

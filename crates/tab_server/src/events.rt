@@ -1,9 +1,9 @@
 //! The events of one connection.
 
-ghost use Rattle.std.specs.Prelude.{◌≡◌, ◌⊎◌, ◌+◌, ◌<◌, [], ℕ, List, length, IfOk, OnOk};
+ghost use Rattle.std.specs.Prelude.{◌≡◌, ◌⊎◌, ◌+◌, ◌<◌, ◌++◌, [], ℕ, List, length, IfOk, OnOk};
 ghost use Rattle.tab_post.specs.Ends.{mailbox_of, received};
 ghost use Rattle.tab_proto.specs.Events.{sent_frames};
-ghost use Rattle.tab_server.specs.Forwarded.{Forwards, NothingLeft};
+ghost use Rattle.tab_server.specs.Forwarded.{aside_frames, Forwards, NothingLeft};
 ghost use Rattle.tab_server.specs.Sending.{Goes};
 
 use crate::answers::Unwritten;
@@ -96,11 +96,38 @@ impl<'a, H: Host, O: Outlet, N: Notes> Events<'a, H, O, N> {
     }
 
     /// Sends an item that was put aside, if there is one, after the kept frames, and then all items that are in the inbox.
-    pub fn resume(&mut self, long: Option<SharedItem>, taken: usize) -> Result<(), Unwritten> {
-        if let Some(item) = &long {
-            self.keep(item.item())?;
-        }
+    pub fn resume(&mut self, long: Option<SharedItem>, taken: usize) -> Result<(), Unwritten>
+        ensures sent { OnOk result
+            ((bytes : List ℕ)
+            × Forwards self.old.seat self.old.delivery (mailbox_of self.old.inbox.now)
+            (received self.old.inbox.now) (received self.new.inbox.now) bytes
+            × Goes O.sent O.broken self.old.outlet self.old.frames.now.items
+            self.new.outlet self.new.frames.now.items
+            (aside_frames self.old.delivery long ++ bytes)) }
+        ensures whole { OnOk result (self.new.frames.now.items ≡ []) }
+        ensures end { OnOk result
+            (NothingLeft self.old.seat (mailbox_of self.old.inbox.now)
+            (received self.new.inbox.now)
+            ⊎ (taken + length (received self.new.inbox.now)
+            < length (received self.old.inbox.now) + self.old.shared.now.outbox)) }
+    {
+        self.keep_aside(&long)?;
         self.send_waiting(taken)
+    }
+
+    fn keep_aside(&mut self, long: &Option<SharedItem>) -> Result<(), Unwritten>
+        ensures bytes { OnOk result
+            (Goes O.sent O.broken self.old.outlet self.old.frames.now.items self.new.outlet
+            self.new.frames.now.items (aside_frames self.old.delivery long.now)) }
+        ensures shared { self.new.shared ≡ self.old.shared }
+        ensures inbox { self.new.inbox.now ≡ self.old.inbox.now }
+        ensures seat { self.new.seat ≡ self.old.seat }
+        ensures delivery { self.new.delivery ≡ self.old.delivery }
+    {
+        match long {
+            Some(item) => self.keep(item.item()),
+            None => Ok(()),
+        }
     }
 
     /// Sends the kept frames, and all items that are in the inbox. `taken` items were received since the inbox was found
