@@ -110,6 +110,8 @@ impl<'a, H: Host, O: Outlet, N: Notes> Events<'a, H, O, N> {
             (received self.new.inbox.now)
             ⊎ (taken + length (received self.new.inbox.now)
             < length (received self.old.inbox.now) + self.old.shared.now.outbox)) }
+        ensures slots { (self.new.inbox.ghost_name ≡ self.old.inbox.ghost_name)
+            × (self.new.frames.ghost_name ≡ self.old.frames.ghost_name) }
     {
         self.keep_aside(&long)?;
         self.send_waiting(taken)
@@ -123,6 +125,8 @@ impl<'a, H: Host, O: Outlet, N: Notes> Events<'a, H, O, N> {
         ensures inbox { self.new.inbox.now ≡ self.old.inbox.now }
         ensures seat { self.new.seat ≡ self.old.seat }
         ensures delivery { self.new.delivery ≡ self.old.delivery }
+        ensures slots { (self.new.inbox.ghost_name ≡ self.old.inbox.ghost_name)
+            × (self.new.frames.ghost_name ≡ self.old.frames.ghost_name) }
     {
         match long {
             Some(item) => self.keep(item.item()),
@@ -150,6 +154,8 @@ impl<'a, H: Host, O: Outlet, N: Notes> Events<'a, H, O, N> {
             (received self.new.inbox.now)
             ⊎ (taken + length (received self.new.inbox.now)
             < length (received self.old.inbox.now) + self.old.shared.now.outbox)) }
+        ensures slots { (self.new.inbox.ghost_name ≡ self.old.inbox.ghost_name)
+            × (self.new.frames.ghost_name ≡ self.old.frames.ghost_name) }
     {
         let came = self.keep_waiting()?;
         self.keep_missed(taken, came)?;
@@ -171,6 +177,8 @@ impl<'a, H: Host, O: Outlet, N: Notes> Events<'a, H, O, N> {
             (NothingLeft self.old.seat (mailbox_of self.old.inbox.now)
             (received self.new.inbox.now)
             ⊎ (taken + came < self.old.shared.now.outbox) × (came < u64.MAX) × (self.new.inbox.now ≡ self.old.inbox.now)) }
+        ensures slots { (self.new.inbox.ghost_name ≡ self.old.inbox.ghost_name)
+            × (self.new.frames.ghost_name ≡ self.old.frames.ghost_name) }
     {
         if taken.saturating_add(came) < self.shared.outbox() {
             return Ok(());
@@ -193,6 +201,8 @@ impl<'a, H: Host, O: Outlet, N: Notes> Events<'a, H, O, N> {
             (λ n. n < u64.MAX → length (received self.new.inbox.now)
             ≡ length (received self.old.inbox.now) + n) }
         ensures shared { self.new.shared ≡ self.old.shared }
+        ensures slots { (self.new.inbox.ghost_name ≡ self.old.inbox.ghost_name)
+            × (self.new.frames.ghost_name ≡ self.old.frames.ghost_name) }
     {
         let mut count: usize = 0;
         for _ in self.host.forever() {
@@ -219,6 +229,8 @@ impl<'a, H: Host, O: Outlet, N: Notes> Events<'a, H, O, N> {
         ensures end { OnOk result
             (NothingLeft self.old.seat (mailbox_of self.old.inbox.now)
             (received self.new.inbox.now)) }
+        ensures slots { (self.new.inbox.ghost_name ≡ self.old.inbox.ghost_name)
+            × (self.new.frames.ghost_name ≡ self.old.frames.ghost_name) }
     {
         for _ in self.host.forever() {
             match self.shared.drained(self.host, &self.seat, self.inbox) {
@@ -243,6 +255,8 @@ impl<'a, H: Host, O: Outlet, N: Notes> Events<'a, H, O, N> {
         ensures inbox { self.new.inbox.now ≡ self.old.inbox.now }
         ensures seat { self.new.seat ≡ self.old.seat }
         ensures delivery { self.new.delivery ≡ self.old.delivery }
+        ensures slots { (self.new.inbox.ghost_name ≡ self.old.inbox.ghost_name)
+            × (self.new.frames.ghost_name ≡ self.old.frames.ghost_name) }
     {
         if is_long(item) {
             self.send_long(item)?;
@@ -265,6 +279,8 @@ impl<'a, H: Host, O: Outlet, N: Notes> Events<'a, H, O, N> {
         ensures inbox { self.new.inbox.now ≡ self.old.inbox.now }
         ensures seat { self.new.seat ≡ self.old.seat }
         ensures delivery { self.new.delivery ≡ self.old.delivery }
+        ensures slots { (self.new.inbox.ghost_name ≡ self.old.inbox.ghost_name)
+            × (self.new.frames.ghost_name ≡ self.old.frames.ghost_name) }
     {
         let written = self.outlet.send_item(self.frames, item, self.delivery)?;
         self.notes
@@ -283,6 +299,8 @@ impl<'a, H: Host, O: Outlet, N: Notes> Events<'a, H, O, N> {
         ensures inbox { self.new.inbox.now ≡ self.old.inbox.now }
         ensures seat { self.new.seat ≡ self.old.seat }
         ensures delivery { self.new.delivery ≡ self.old.delivery }
+        ensures slots { (self.new.inbox.ghost_name ≡ self.old.inbox.ghost_name)
+            × (self.new.frames.ghost_name ≡ self.old.frames.ghost_name) }
     {
         self.outlet.send(self.frames)?;
         let written = self.frames.len() as u64;

@@ -11,7 +11,7 @@ use Rattle.tab_server.proofs.events.Events.keep_rest.Goals as goal
 
 pub loop-init : goal.loop-init
 loop-init g c =
-    let now = c.args.self.now in (tt, tt, refl, refl, refl, passes_none g.O.Outlet.sent g.O.Outlet.broken now.seat now.delivery (mailbox_of now.inbox.now) (received now.inbox.now) now.outlet now.frames.now.items)
+    let now = c.args.self.now in (tt, tt, refl, refl, refl, (refl, refl), passes_none g.O.Outlet.sent g.O.Outlet.broken now.seat now.delivery (mailbox_of now.inbox.now) (received now.inbox.now) now.outlet now.frames.now.items)
 
 pub loop-preserved-in-Going : goal.loop-preserved-in-Going
 loop-preserved-in-Going g c =
@@ -31,7 +31,8 @@ loop-preserved-in-Going g c =
       ap mailbox_of c.keep.ensures.inbox ∙ c.in-Going.ensures.mailbox ∙ c.loop.invariant.2,
       c.keep.ensures.seat ∙ c.loop.invariant.3,
       c.keep.ensures.delivery ∙ c.loop.invariant.4,
-      passes_then S B n d m first (received old.inbox.now) (received new.inbox.now) _ _ _ _ _ _ c.loop.invariant.5
+      (c.keep.ensures.slots.0 ∙ c.loop.invariant.5.0, c.keep.ensures.slots.1 ∙ c.loop.invariant.5.1),
+      passes_then S B n d m first (received old.inbox.now) (received new.inbox.now) _ _ _ _ _ _ c.loop.invariant.6
           (passes_item S B n d m (received old.inbox.now) (received new.inbox.now) old.outlet new.outlet old.frames.now.items new.frames.now.items c.in-Going.item taken goes),
     )
 
@@ -52,7 +53,8 @@ loop-preserved g c =
       c.in-Overflow.ensures.mailbox ∙ c.loop.invariant.2,
       c.loop.invariant.3,
       c.loop.invariant.4,
-      passes_then S B n d m first (received old.inbox.now) after _ _ _ _ _ _ c.loop.invariant.5
+      c.loop.invariant.5,
+      passes_then S B n d m first (received old.inbox.now) after _ _ _ _ _ _ c.loop.invariant.6
           (passes_overflow S B n d m (received old.inbox.now) after old.outlet old.frames.now.items c.append_overflow.new.out.items c.in-Overflow.number c.in-Overflow.ensures.takes is
           (goes_kept S B old.outlet old.frames.now.items c.append_overflow.new.out.items _ c.in_ok-append_overflow-in-Overflow.ensures.ok)),
     )
