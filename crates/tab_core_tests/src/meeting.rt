@@ -256,39 +256,79 @@ fn is_told(alloc: Global, reply: &SharedReply, wanted: &[u8]) -> Result<bool, Fa
     Ok(told.as_slice() == wanted)
 }
 
+/// Returns whether a request has this reply, over a ring.
+fn is_taken(
+    alloc: Global,
+    core: &mut Core<RingPost>,
+    request: &[u8],
+    wanted: &[u8],
+) -> Result<bool, Fail> {
+    let reply = reply_to(core, ask_in(alloc, request)?);
+    is_told(alloc, &reply, wanted)
+}
+
 /// The first request with another reply, over a ring.
-fn differs_by_take(alloc: Global, row: Row) -> Result<Option<usize>, Fail> {
-    let mut core = Core::new(alloc, Limits::STANDARD);
-    let post = RingPost::with_capacity(alloc, OUTBOX)?;
-    drop(stepped(&mut core, Step::Join(post)));
+fn differs_by_take(
+    alloc: Global,
+    core: &mut Core<RingPost>,
+    row: Row,
+) -> Result<Option<usize>, Fail> {
     for (number, (request, wanted)) in row.iter().enumerate() {
-        let reply = reply_to(&mut core, ask_in(alloc, request)?);
-        if !is_told(alloc, &reply, wanted)? {
+        if !is_taken(alloc, core, request, wanted)? {
             return Ok(Some(number));
         }
     }
     Ok(None)
 }
 
-/// The same over a mailbox.
-fn differs_by_meet<H: Host>(
-    alloc: Global,
-    row: Row,
-    post: ChannelPost<H>,
-    inbox: &mut Inbox<H>,
-) -> Result<Option<usize>, Fail> {
+/// The same on a core of its own.
+fn take_all(alloc: Global, row: Row) -> Result<Option<usize>, Fail> {
+    let post = RingPost::with_capacity(alloc, OUTBOX)?;
     let mut core = Core::new(alloc, Limits::STANDARD);
     drop(stepped(&mut core, Step::Join(post)));
+    differs_by_take(alloc, &mut core, row)
+}
+
+/// Returns whether a request has this reply, over a mailbox.
+fn is_met<H: Host>(
+    alloc: Global,
+    core: &mut Core<ChannelPost<H>>,
+    inbox: &mut Inbox<H>,
+    request: &[u8],
+    wanted: &[u8],
+) -> Result<bool, Fail> {
+    let reply = match ask_in(alloc, request)? {
+        Ask::Take => met(core, inbox),
+        ask => reply_to(core, ask),
+    };
+    is_told(alloc, &reply, wanted)
+}
+
+/// The first request with another reply, over a mailbox.
+fn differs_by_meet<H: Host>(
+    alloc: Global,
+    core: &mut Core<ChannelPost<H>>,
+    inbox: &mut Inbox<H>,
+    row: Row,
+) -> Result<Option<usize>, Fail> {
     for (number, (request, wanted)) in row.iter().enumerate() {
-        let reply = match ask_in(alloc, request)? {
-            Ask::Take => met(&mut core, inbox),
-            ask => reply_to(&mut core, ask),
-        };
-        if !is_told(alloc, &reply, wanted)? {
+        if !is_met(alloc, core, inbox, request, wanted)? {
             return Ok(Some(number));
         }
     }
     Ok(None)
+}
+
+/// The same on a core of its own.
+fn meet_all<H: Host>(
+    alloc: Global,
+    row: Row,
+    post: ChannelPost<H>,
+    mut inbox: Inbox<H>,
+) -> Result<Option<usize>, Fail> {
+    let mut core = Core::new(alloc, Limits::STANDARD);
+    drop(stepped(&mut core, Step::Join(post)));
+    differs_by_meet(alloc, &mut core, &mut inbox, row)
 }
 
 /// Returns whether a row has its replies over both.
@@ -299,19 +339,28 @@ fn is_same<H: Host>(
     prefix: &mut Prefix<Channel, H>,
     row: Row,
 ) -> Result<bool, Fail> {
-    let (post, mut inbox) = NewMailbox::new(alloc, OUTBOX)?.enter(register, prefix, rt);
-    let met = differs_by_meet(alloc, row, post, &mut inbox)?;
-    Ok(met.is_none() && differs_by_take(alloc, row)?.is_none())
+    let (post, inbox) = NewMailbox::new(alloc, OUTBOX)?.enter(register, prefix, rt);
+    let differs = meet_all(alloc, row, post, inbox)?;
+    Ok(differs.is_none() && take_all(alloc, row)?.is_none())
+}
+
+fn rows_are_same<H: Host>(
+    rt: H,
+    alloc: Global,
+    register: &Register<Channel, H>,
+    prefix: &mut Prefix<Channel, H>,
+) -> Result<bool, Fail> {
+    let detailed = is_same(rt, alloc, register, prefix, DETAILED.as_slice())?;
+    let bag = is_same(rt, alloc, register, prefix, BAG.as_slice())?;
+    let two_tables = is_same(rt, alloc, register, prefix, TWO_TABLES.as_slice())?;
+    Ok(detailed && bag && two_tables)
 }
 
 fn are_same<H: Host>(rt: H, alloc: Global, opened: Opened<Channel>) -> Result<bool, Fail>
     requires { opened ≡ H.book }
 {
     let (register, mut prefix) = opened.named::<H>();
-    let detailed = is_same(rt, alloc, &register, &mut prefix, DETAILED.as_slice())?;
-    let bag = is_same(rt, alloc, &register, &mut prefix, BAG.as_slice())?;
-    let two_tables = is_same(rt, alloc, &register, &mut prefix, TWO_TABLES.as_slice())?;
-    Ok(detailed && bag && two_tables)
+    rows_are_same(rt, alloc, &register, &mut prefix)
 }
 
 fn named_are_same<J: Naming, R: Wait + Copy>(

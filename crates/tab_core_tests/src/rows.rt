@@ -1,6 +1,5 @@
 //! Records in entries of their own, in a set and in a bag.
 use std::alloc::{AllocError, Global};
-use std::test::Fail;
 use tab_model::OnlyRecord;
 use tab_rows::{Kind, Rows, Update};
 use tab_term::{Term, Terms};
@@ -14,16 +13,22 @@ fn record(alloc: Global, value: i128) -> Result<Term, AllocError> {
     Ok(Term::Tuple(Terms::from_vec(row)))
 }
 
-#[test]
-fn a_bag_keeps_what_a_set_replaces(rt: HostRuntime) -> Result<(), Fail> {
-    let alloc = rt.alloc();
-    let (mut set, mut bag) = (Rows::new(Kind::Set), Rows::new(Kind::Bag));
+fn update(alloc: Global, rows: &mut Rows, value: i128) -> Result<(), AllocError> {
+    let update = Update::only(OnlyRecord::new(alloc, record(alloc, value)?)?);
+    rows.update(alloc, &update, None)
+}
+
+/// The rows of a table to which two records are written, the second twice.
+fn size_of(alloc: Global, kind: Kind) -> Result<usize, AllocError> {
+    let mut rows = Rows::new(kind);
     for value in [1, 2, 2] {
-        let only = OnlyRecord::new(alloc, record(alloc, value)?)?;
-        let update = Update::only(only);
-        set.update(alloc, &update, None)?;
-        bag.update(alloc, &update, None)?;
+        update(alloc, &mut rows, value)?;
     }
-    assert!(rt; set.size() == 1 && bag.size() == 2);
-    Ok(())
+    Ok(rows.size())
+}
+
+#[test]
+fn a_bag_keeps_what_a_set_replaces(rt: HostRuntime) {
+    assert!(rt; size_of(rt.alloc(), Kind::Set) == Ok(1));
+    assert!(rt; size_of(rt.alloc(), Kind::Bag) == Ok(2));
 }
