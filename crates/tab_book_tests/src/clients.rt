@@ -20,30 +20,33 @@ pub trait Watcher {
     fn shown(&mut self) -> u64;
 }
 
-#[derive(Clone, Copy)]
+/// A session of a shared book.
+#[derive(Drop)]
 pub struct Client<'a, H: Host> {
     pub host: &'a H,
     pub shared: &'a Shared<H>,
-    pub seat: &'a Seat,
+    pub seat: Seat,
 }
 
 impl<'a, H: Host> Caller for Client<'a, H> {
     fn call(&self, command: Command) -> Result<SharedReply, AllocError> {
-        self.shared.call(self.host, self.seat, command)
+        self.shared.call(self.host, &self.seat, command)
     }
 }
 
-/// A client and an inbox, which may be another's.
+/// A session with an inbox, which may be another's.
 #[derive(Drop)]
 pub struct Taking<'a, H: Host> {
-    pub client: Client<'a, H>,
-    pub inbox: &'a mut Inbox<H>,
+    pub host: &'a H,
+    pub shared: &'a Shared<H>,
+    pub seat: Seat,
+    pub inbox: Inbox<H>,
 }
 
 impl<'a, H: Host> Watcher for Taking<'a, H> {
     fn shown(&mut self) -> u64 {
-        let client = &self.client;
-        shown_as(&client.shared.drained(client.host, client.seat, self.inbox))
+        let drained = self.shared.drained(self.host, &self.seat, &mut self.inbox);
+        shown_as(&drained)
     }
 }
 

@@ -123,10 +123,11 @@ fn raise_all<H: Host>(
     seat: &Seat,
     entered: &AtomicU64,
 ) {
+    let seat = *seat;
     let client = Client { host, shared, seat };
     for _ in 0..EACH {
         if let Ok(raised) = raise(host, alloc, &client) {
-            if is_entered(host, shared, seat, raised) {
+            if is_entered(host, shared, &seat, raised) {
                 entered.fetch_add(1, Ordering::SeqCst);
             }
         }
@@ -208,7 +209,7 @@ fn join_and_count<H: Host + Threads + Send + Sync>(
     inboxes: &mut Vec<Inbox<H>>,
 ) -> Result<Counts, Fail> {
     join_all(host, shared, THREADS, sessions, inboxes)?;
-    let seat = sessions.first().ok_or("no seat")?;
+    let seat = *sessions.first().ok_or("no seat")?;
     let first = Client { host, shared, seat };
     begin_at_0(alloc, &first)?;
     let entered = AtomicU64::new(0);

@@ -81,7 +81,8 @@ fn is_told<C: Caller, W: Watcher>(
 /// Returns whether both rounds are right. The watcher of another session's inbox is shown nothing.
 fn rounds_are_right<C: Caller, W: Watcher>(
     alloc: Global,
-    [writer, reader]: [&C; 2],
+    writer: &C,
+    reader: &C,
     watcher: &mut W,
     other: &mut W,
 ) -> Result<bool, AllocError> {
@@ -105,37 +106,33 @@ fn overflow<H: Host>(host: H, alloc: Global, opened: Opened<Channel>) -> Result<
 }
 
 fn overflow_in<H: Host>(host: &H, alloc: Global, shared: &Shared<H>) -> Result<bool, Fail> {
-    let (seat, mut inbox) = shared.join(host).map_err(|_| "join")?;
-    let writer = Client {
-        host,
-        shared,
-        seat: &seat,
-    };
-    overflow_of(alloc, &writer, &mut inbox)
+    let (seat, inbox) = shared.join(host).map_err(|_| "join")?;
+    let writer = Client { host, shared, seat };
+    overflow_of(alloc, &writer, inbox)
 }
 
-/// The reader, which leaves in the end.
+/// The reader, which leaves in the end, and the writer's inbox.
 fn overflow_of<H: Host>(
     alloc: Global,
     writer: &Client<'_, H>,
-    other: &mut Inbox<H>,
+    others: Inbox<H>,
 ) -> Result<bool, Fail> {
     let (host, shared) = (writer.host, writer.shared);
-    let (seat, mut inbox) = shared.join(host).map_err(|_| "join")?;
-    let reader = Client {
+    let (seat, inbox) = shared.join(host).map_err(|_| "join")?;
+    let reader = Client { host, shared, seat };
+    let mut other = Taking {
         host,
         shared,
-        seat: &seat,
-    };
-    let mut other = Taking {
-        client: reader,
-        inbox: other,
+        seat,
+        inbox: others,
     };
     let mut watcher = Taking {
-        client: reader,
-        inbox: &mut inbox,
+        host,
+        shared,
+        seat,
+        inbox,
     };
-    let right = rounds_are_right(alloc, [writer, &reader], &mut watcher, &mut other);
+    let right = rounds_are_right(alloc, writer, &reader, &mut watcher, &mut other);
     shared.leave(host, &seat);
     Ok(right == Ok(true) && watcher.shown() == LEFT)
 }

@@ -122,25 +122,19 @@ fn differs<H: Host>(host: H, alloc: Global, opened: Opened<Channel>) -> Result<O
 
 fn differs_in<H: Host>(host: &H, alloc: Global, shared: &Shared<H>) -> Result<Option<usize>, Fail> {
     let (seat, _inbox) = join(host, shared).map_err(|_| "no writer")?;
-    let writer = Client {
-        host,
-        shared,
-        seat: &seat,
-    };
+    let writer = Client { host, shared, seat };
     watched_differs(alloc, &writer)
 }
 
 fn watched_differs<H: Host>(alloc: Global, writer: &Client<'_, H>) -> Result<Option<usize>, Fail> {
     let (host, shared) = (writer.host, writer.shared);
-    let (seat, mut inbox) = join(host, shared).map_err(|_| "no watcher")?;
-    let client = Client {
+    let (seat, inbox) = join(host, shared).map_err(|_| "no watcher")?;
+    let client = Client { host, shared, seat };
+    let mut watcher = Taking {
         host,
         shared,
-        seat: &seat,
-    };
-    let mut watcher = Taking {
-        client,
-        inbox: &mut inbox,
+        seat,
+        inbox,
     };
     let differs = any_differs(alloc, writer, &client, &mut watcher);
     let is_history = is_history(host, shared) == Ok(true);
