@@ -1,17 +1,14 @@
-//! Tests of tab_proto: commands as payloads of the external term format, items as frames, and of tab_model's copies. The built
-//! program's streams show requests and replies.
+//! Tests of tab_proto: commands as payloads of the external term format, replies within a bound, and of tab_model's copies. The
+//! built program's streams show requests, replies and items.
 
 use crate::etf::answers::{Shape, answers};
 use std::alloc::{AllocError, Global};
 use std::test::Fail;
-use tab_etf::{Counted, EncodeFault, FrameFault, decode};
-use tab_lists::{EventTerm, EventTerms, SharedEvent, SharedTerms, Tag};
-use tab_model::{Command, Ending, Item, Level, Reply};
-use tab_proto::{
-    Delivery, append_item, append_reply, append_reply_within, command, term_of, write_item,
-    write_reply,
-};
-use tab_term::{Atom, Term, Terms};
+use tab_etf::{EncodeFault, decode};
+use tab_lists::SharedTerms;
+use tab_model::{Command, Reply};
+use tab_proto::{append_reply, append_reply_within, command, term_of};
+use tab_term::{Term, Terms};
 
 /// Payloads of every command.
 static COMMANDS: [&[u8]; 22] = [
@@ -54,22 +51,6 @@ static NO_COMMANDS: [&[u8]; 9] = [
     b"\x83h\x03w\x0bunsubscribeh\x03w\x05tablew\x01tw\x06simplew\x04dump",
 ];
 
-/// The frames of an item by its events, and whole.
-static SENT: [(&[u8], &[u8]); 3] = [
-    (
-        b"\0\0\0\x21\x83h\x03w\x10mnesia_table_endw\x01tw\x07deleted",
-        b"\0\0\0\x21\x83h\x03w\x10mnesia_table_endw\x01tw\x07deleted",
-    ),
-    (
-        b"\0\0\0\x27\x83h\x04w\x12mnesia_table_beginw\x01tw\x06simplek\0\x02\x03\x04",
-        b"\0\0\0\x27\x83h\x04w\x12mnesia_table_beginw\x01tw\x06simplek\0\x02\x03\x04",
-    ),
-    (
-        b"\0\0\0\x33\x83h\x02w\x12mnesia_table_eventh\x03w\x05writeh\x03w\x01ta\x01w\x01ah\x02w\x03tida\x01\0\0\0\x39\x83h\x02w\x12mnesia_table_eventh\x05w\x06deletew\x01th\x02w\x01ta\x01k\0\x02\x03\x04h\x02w\x03tida\x02",
-        b"\0\0\0\x7c\x83h\x03w\x05batcha\x07l\0\0\0\x02h\x02w\x12mnesia_table_eventh\x03w\x05writeh\x03w\x01ta\x01w\x01ah\x02w\x03tida\x01h\x02w\x12mnesia_table_eventh\x05w\x06deletew\x01th\x02w\x01ta\x01k\0\x02\x03\x04h\x02w\x03tida\x02j",
-    ),
-];
-
 fn copied(alloc: Global, command: &Command) -> Result<Term, AllocError> {
     match command {
         Command::Do(operation) => {
@@ -99,112 +80,6 @@ fn commands_are_read_and_told(rt: HostRuntime) -> Result<(), Fail> {
         let held = decode(alloc, payload)?;
         assert!(rt; told_again(alloc, &held).is_none(), "line {line}");
     }
-    Ok(())
-}
-
-/// The write of a record, as a simple event.
-fn write_event(alloc: Global) -> Result<SharedEvent, Fail> {
-    let record = decode(alloc, b"\x83h\x03w\x01ta\x01w\x01a")?;
-    Ok(SharedEvent::new(alloc, EventTerm::simple(Tag::Write, record, 1))?)
-}
-
-/// The deletion of its key, as a detailed event.
-fn delete_event(alloc: Global) -> Result<SharedEvent, Fail> {
-    let place = decode(alloc, b"\x83h\x02w\x01ta\x01")?;
-    let (table, old) = (table(alloc)?, three_and_four(alloc)?);
-    let event = EventTerm::detailed(Tag::Delete, table, place, old, 2);
-    Ok(SharedEvent::new(alloc, event)?)
-}
-
-fn batch(alloc: Global) -> Result<Item, Fail> {
-    let mut events = EventTerms::new(alloc);
-    events.push(write_event(alloc)?)?;
-    events.push(delete_event(alloc)?)?;
-    Ok(Item::Batch(7, events))
-}
-
-fn table(alloc: Global) -> Result<Atom, AllocError> {
-    Atom::from_short_text(alloc, "t")
-}
-
-/// The list of 3 and 4.
-fn three_and_four(alloc: Global) -> Result<SharedTerms, AllocError> {
-    let mut terms = Vec::with_capacity(alloc, 2)?;
-    terms.push_reserved(Term::Int(3));
-    terms.push_reserved(Term::Int(4));
-    Ok(SharedTerms::from_terms(Terms::from_vec(terms)))
-}
-
-fn begin(alloc: Global) -> Result<Item, AllocError> {
-    let dump = three_and_four(alloc)?;
-    Ok(Item::Began(table(alloc)?, Level::Simple, Some(dump)))
-}
-
-/// An end marker, a begin marker with a dump, or a batch: the last two hold 3 and 4.
-fn item_of(alloc: Global, number: usize) -> Result<Item, Fail> {
-    match number {
-        0 => Ok(Item::Ended(table(alloc)?, Ending::Deleted)),
-        1 => Ok(begin(alloc)?),
-        _ => batch(alloc),
-    }
-}
-
-/// Returns whether these frames are added to bytes, and are written to a device.
-fn is_sent(alloc: Global, item: &Item, delivery: Delivery, frames: &[u8]) -> Result<bool, Fail> {
-    let mut added = Vec::new(alloc);
-    append_item(item, delivery, &mut added)?;
-    let mut device = Counted::new(Vec::new(alloc));
-    write_item(&mut device, item, delivery)?;
-    Ok(added.as_slice() == frames && device.into_inner().as_slice() == frames)
-}
-
-/// Returns whether the item of this line is sent as these frames, by its events and whole.
-fn is_sent_as(alloc: Global, line: usize, by_events: &[u8], whole: &[u8]) -> Result<bool, Fail> {
-    let item = item_of(alloc, line)?;
-    let apart = is_sent(alloc, &item, Delivery::Events, by_events)?;
-    Ok(is_sent(alloc, &item, Delivery::Batches, whole)? && apart)
-}
-
-#[test]
-fn items_are_sent(rt: HostRuntime) -> Result<(), Fail> {
-    for (line, (by_events, whole)) in SENT.iter().enumerate() {
-        assert!(rt;
-            is_sent_as(rt.alloc(), line, by_events, whole)?,
-            "line {line}"
-        );
-    }
-    Ok(())
-}
-
-/// Two replies that share a list.
-fn replies(alloc: Global) -> Result<(Reply, Reply), AllocError> {
-    let mut records = Vec::with_capacity(alloc, 1)?;
-    records.push_reserved(Term::Int(3));
-    let records = SharedTerms::from_terms(Terms::from_vec(records));
-    let (first, second) = records.pair(alloc)?;
-    Ok((Reply::Found(first), Reply::Found(second)))
-}
-
-fn is_appended(alloc: Global, reply: Reply) -> Result<bool, EncodeFault> {
-    let mut frame = Vec::new(alloc);
-    append_reply(Some(7), &reply, &mut frame)?;
-    Ok(frame.as_slice() == b"\0\0\0\x09\x83h\x02a\x07k\0\x01\x03".as_slice())
-}
-
-fn is_written(alloc: Global, reply: Reply) -> Result<bool, FrameFault> {
-    let mut device = Counted::new(Vec::new(alloc));
-    write_reply(&mut device, None, &reply)?;
-    let frame = b"\0\0\0\x0e\x83h\x02w\x05replyk\0\x01\x03";
-    Ok(device.into_inner().as_slice() == frame.as_slice())
-}
-
-/// Both of a pair of lists are encoded, the second when the first is gone.
-#[test]
-fn replies_are_spelled(rt: HostRuntime) -> Result<(), Fail> {
-    let (first, second) = replies(rt.alloc())?;
-    let is_appended = is_appended(rt.alloc(), first);
-    let is_written = is_written(rt.alloc(), second);
-    assert!(rt; is_appended == Ok(true) && is_written == Ok(true));
     Ok(())
 }
 
