@@ -30,6 +30,8 @@ Work = Callable[[], object]
 Prepare = Callable[[Server, Connection], Work]
 
 RECORDS, BAGGED, WRITES, DUMPS, READS, FINDS, WATCHERS = 100_000, 6_000, 899, 32, 999, 99, 60
+# The most indexes of a table, the writes to it, and the elements of a record's list that a request has room for.
+INDEXES, WIDE, ELEMENTS = 254, 333, 1_000_000
 # As many commands on tables as make a journal full, by two, and transactions behind them.
 PAIRS, FOLDS = 66, 20
 # A read's own record, in a table of its own.
@@ -162,6 +164,25 @@ def own_writes(server: Server, client: Connection) -> Work:
     return lambda: ask_long(client, request, size_of(("atomic", [OK] * READS)))
 
 
+def long_writes(server: Server, client: Connection) -> Work:
+    """A record whose list has many elements, which the journal counts when it takes it and when it folds it."""
+    request = ("transaction", [("write", ("t", next(OWN), [[]] * ELEMENTS))], 0)
+    return lambda: ask_long(client, request, size_of(("atomic", [OK])))
+
+
+def wide_writes(server: Server, client: Connection) -> Work:
+    """Records of a table of its own with many indexes, each with a value of its own in each, as many as a request has room for."""
+    name, first = f"wide{next(OWN)}", itertools.count()
+    attributes = [f"a{at}" for at in range(INDEXES + 1)]
+    script((client, ("create_table", name, [("attributes", attributes), ("index", attributes[1:])]), ATOMIC))
+
+    def work() -> None:
+        records = [(name, *range(key, key + INDEXES + 1)) for key in itertools.islice(first, WIDE)]
+        ask_long(client, ("transaction", [("write", record) for record in records], 0), size_of(("atomic", [OK] * WIDE)))
+
+    return work
+
+
 def index_again(client: Connection, name: str) -> None:
     """An index is added to a table and taken away."""
     script((client, ("add_table_index", name, "val"), ATOMIC), (client, ("del_table_index", name, "val"), ATOMIC))
@@ -217,6 +238,8 @@ def rows(count: int) -> Iterator[Tuple[str, Callable[[Connection], None], Prepar
            asks(("transaction", [half], 0), size_of(("atomic", [mixed[::2]]))))
     yield f"index_read that finds all, {RECORDS} records", with_index, asks(("transaction", [("index_read", "t", 7, "val")], 0), size_of(("atomic", [indexed])))
     yield f"a one-shot of {READS} writes, {RECORDS} records", small, own_writes
+    yield f"a write of a list of {ELEMENTS} empty lists", one, long_writes
+    yield f"a one-shot of {WIDE} writes to a table of its own with {INDEXES} indexes", one, wide_writes
     yield f"an index is added and taken away, of a table of {RECORDS} records", one, own_index
     yield (f"a one-shot of {finds} match_object that find half, {RECORDS} records", table(lambda key: mixed[key], RECORDS, 500),
            asks(("transaction", [half] * finds, 0), size_of(("atomic", [mixed[::2]] * finds))))

@@ -1,5 +1,7 @@
 -- Items and overflows that are sent, one after another.
-use Rattle.std.proofs.Common.{◌≡◌, inl, inr, ℕ, List, [], ◌∷◌, ◌++◌, refl, sym, ap, ◌∙◌, append_assoc, append-nil, subst}
+use Rattle.std.specs.Io.KnownBytes.{Appends, append_known}
+use Rattle.std.proofs.lemmas.List.{length-append}
+use Rattle.std.proofs.Common.{◌≡◌, ◌⊎◌, ◌+◌, ◌<◌, arith, length, min, Bool, Option, None, Some, inl, inr, ℕ, List, [], ◌∷◌, ◌++◌, refl, sym, ap, ◌∙◌, append_assoc, append-nil, subst}
 use Rattle.tab_term.specs.Canon.{canon}
 use Rattle.tab_etf.specs.Frames.{frame}
 use Rattle.tab_model.specs.declared.data.Item.{Item}
@@ -9,7 +11,9 @@ use Rattle.tab_proto.specs.Events.{sent_frames}
 use Rattle.tab_proto.specs.Replies.{reply_term}
 use Rattle.tab_book.specs.declared.step.Drained.TheVariants.{Overflow}
 use Rattle.tab_book.specs.Inboxes.{IsDrained}
-use Rattle.tab_server.specs.Forwarded.{Part, part_frames, Come, Forwards}
+use Rattle.tab_server.specs.Forwarded.{Part, part_frames, Come, Forwards, NothingLeft}
+use Rattle.tab_server.specs.Laws.{goes_none, goes_then}
+use Rattle.tab_server.specs.Sending.{Goes}
 
 pub frames_then : (d : Delivery) (ps qs : List Part) → part_frames d (ps ++ qs) ≡ part_frames d ps ++ part_frames d qs
 frames_then d [] qs = refl
@@ -48,3 +52,63 @@ module _ (n : ℕ) (d : Delivery) (m : ℕ) where
     come = come_then a b c h.parts k.parts h.come k.come;
     frames_are = ap (λ r. r ++ more) h.frames_are ∙ ap (λ r. part_frames d h.parts ++ r) k.frames_are ∙ sym (frames_then d h.parts k.parts);
   }
+
+-- some frames are kept
+pub goes_kept : {O : Type 0} (sent : O → Option (List ℕ)) (broken : O → Bool) (o : O) (x y bytes : List ℕ) → y ≡ x ++ bytes → Goes sent broken o x o y bytes
+goes_kept {O} sent broken o x y bytes e whole = (whole, more (sent o))
+  where
+    more : (a : Option (List ℕ)) → Appends (append_known a x) (append_known a y) bytes
+    more None = tt
+    more (Some w) = ap (λ r. w ++ r) e ∙ sym (append_assoc w x bytes)
+
+module _ {O : Type 0} (sent : O → Option (List ℕ)) (broken : O → Bool) (n : ℕ) (d : Delivery) (m : ℕ) where
+  -- what was received is sent or kept
+  abbrev pub Passes : List Item → O → List ℕ → List Item → O → List ℕ → Type 0
+  Passes before a x after b y = (bytes : List ℕ) × Forwards n d m before after bytes × Goes sent broken a x b y bytes
+
+  pub passes_none : (before : List Item) (a : O) (x : List ℕ) → Passes before a x before a x
+  passes_none before a x = ([], forwards_none n d m before before refl, goes_none sent broken a x)
+
+  pub passes_item : (before after : List Item) (a b : O) (x y : List ℕ) (i : Item) → after ≡ before ++ i ∷ [] → Goes sent broken a x b y (sent_frames d i) → Passes before a x after b y
+  passes_item before after a b x y i taken goes = (sent_frames d i, forwards_item n d m before after i taken, goes)
+
+  pub passes_overflow : (before after : List Item) (a : O) (x y : List ℕ) (c : ℕ) → after ≡ before → IsDrained n m before (Overflow c) after
+      → Goes sent broken a x a y (frame (131 ∷ canon (reply_term (reply.Overflow c)))) → Passes before a x after a y
+  passes_overflow before after a x y c same is goes = (frame (131 ∷ canon (reply_term (reply.Overflow c))), forwards_overflow n d m before after c same is, goes)
+
+  pub passes_kept : (before after : List Item) (a b : O) (x y : List ℕ) → after ≡ before → Goes sent broken a x b y [] → Passes before a x after b y
+  passes_kept before after a b x y same goes = ([], forwards_none n d m before after same, goes)
+
+  pub passes_then : (r s t : List Item) (a b c : O) (x y z : List ℕ) → Passes r a x s b y → Passes s b y t c z → Passes r a x t c z
+  passes_then r s t a b c x y z h k =
+      (h.0 ++ k.0, forwards_then n d m r s t h.0 k.0 h.1 k.1, goes_then sent broken a b c x y z h.0 k.0 h.2 k.2)
+
+-- the same for an equal session, delivery and mailbox
+pub passes_at : {O : Type 0} (sent : O → Option (List ℕ)) (broken : O → Bool) (n k : ℕ) (d e : Delivery) (m l : ℕ) (before : List Item) (a : O) (x : List ℕ) (after : List Item) (b : O) (y : List ℕ)
+    → k ≡ n → e ≡ d → l ≡ m → Passes sent broken k e l before a x after b y → Passes sent broken n d m before a x after b y
+passes_at {O} sent broken n k d e m l before a x after b y sn sd sm h =
+    (h.0, subst (λ i. Forwards n d i before after h.0) sm (subst (λ i. Forwards n i l before after h.0) sd (subst (λ i. Forwards i e l before after h.0) sn h.1)), h.2)
+
+-- ---- how many items came
+
+pub one_more : (first old new : List Item) (i : Item) (count next : ℕ) → new ≡ old ++ i ∷ [] → (count < 18446744073709551615 → length old ≡ length first + count) → next ≡ min (count + 1) 18446744073709551615
+    → next < 18446744073709551615 → length new ≡ length first + next
+one_more first old new i count next taken so is less =
+    let more : length new ≡ length old + 1 = ap length taken ∙ length-append old (i ∷ []) in
+    let small : count < 18446744073709551615 = omega (arith, is, less) in
+    let before = so small in
+    omega (arith, is, less, more, before)
+
+pub nothing_at : (n k m l : ℕ) (xs ys : List Item) → k ≡ n → l ≡ m → xs ≡ ys → NothingLeft k l xs → NothingLeft n m ys
+nothing_at n k m l xs ys sn sm sx h =
+    subst (λ zs. NothingLeft n m zs) sx (subst (λ i. NothingLeft n i xs) sm (subst (λ i. NothingLeft i l xs) sn h))
+
+-- nothing is left, or fewer items came than the mailbox has room for
+pub ended : (n k m l : ℕ) (first old new : List Item) (taken came room room' : ℕ) → k ≡ n → l ≡ m → (came < 18446744073709551615 → length old ≡ length first + came) → room' ≡ room
+    → (P : Type 0) → (mid : List Item) → (P → mid ≡ old) → NothingLeft k l mid ⊎ (taken + came < room') × (came < 18446744073709551615) × P → new ≡ mid
+    → NothingLeft n m new ⊎ (taken + length new < length first + room)
+ended n k m l first old new taken came room room' sn sm so sr P mid same (inl none) e = inl (nothing_at n k m l mid new sn sm (sym e) none)
+ended n k m l first old new taken came room room' sn sm so sr P mid same (inr (less, small, p)) e =
+    let before = so small in
+    let count = ap length (e ∙ same p) in
+    inr (omega (arith, less, before, count, sr))

@@ -1,5 +1,6 @@
 -- How a session's items, and its overflows, go to its client (this project's own rules).
-use Rattle.std.specs.Prelude.{◌≡◌, ◌⊎◌, inl, inr, ℕ, List, [], ◌∷◌, ◌++◌}
+use Rattle.std.proofs.Common.{inl, inr}
+use Rattle.std.specs.Prelude.{◌≡◌, ◌⊎◌, ℕ, List, [], ◌∷◌, ◌++◌, Option, None, Some}
 use Rattle.tab_term.specs.Canon.{canon}
 use Rattle.tab_etf.specs.Frames.{frame}
 use Rattle.tab_model.specs.declared.data.Item.{Item}
@@ -7,7 +8,7 @@ use Rattle.tab_model.specs.declared.data.Reply.TheVariants as reply
 use Rattle.tab_proto.specs.declared.events.Delivery.{Delivery}
 use Rattle.tab_proto.specs.Events.{sent_frames}
 use Rattle.tab_proto.specs.Replies.{reply_term}
-use Rattle.tab_book.specs.declared.step.Drained.TheVariants.{Overflow}
+use Rattle.tab_book.specs.declared.step.Drained.TheVariants.{AllTaken, Overflow, Left}
 use Rattle.tab_book.specs.Inboxes.{IsDrained}
 
 -- an item, or the number of an overflow
@@ -31,3 +32,12 @@ pub record Forwards (n : ℕ) (d : Delivery) (mailbox : ℕ) (before after : Lis
   pub parts : List Part
   pub come : Come n mailbox before parts after
   pub frames_are : bytes ≡ part_frames d parts
+
+-- a running book shows that nothing is left of what the session was sent: all items are received, and each overflow is reported
+abbrev pub NothingLeft : ℕ → ℕ → List Item → Type 0
+NothingLeft n mailbox received = IsDrained n mailbox received AllTaken received ⊎ IsDrained n mailbox received Left received
+
+-- the frames of an item that was put aside, if there is one
+abbrev pub aside_frames : Delivery → Option Item → List ℕ
+aside_frames d None = []
+aside_frames d (Some x) = sent_frames d x

@@ -9,7 +9,7 @@ abbrev pub all_frames : Delivery → List Item → List ℕ
 all_frames d [] = []
 all_frames d (x ∷ xs) = sent_frames d x ++ all_frames d xs
 
--- what is received has its frames behind those before, in order, each item once
+-- the frames of the items that were received come after those before, in order, each once
 pub record Adds (d : Delivery) (before : List Item) (frames : List ℕ) (after : List Item) (now : List ℕ) : Type 0 where
   pub items : List Item
   pub taken : after ≡ before ++ items
@@ -19,7 +19,7 @@ pub record Adds (d : Delivery) (before : List Item) (frames : List ℕ) (after :
 abbrev pub IsLeft : List Item → Option Item → Option Item → Type 0
 IsLeft left long aside = ((left ≡ []) × (aside ≡ long)) ⊎ ((x : Item) × (left ≡ x ∷ []) × (aside ≡ Some x))
 
--- what is received has its frames behind those before, in order, each item once, but for one that is put aside
+-- the frames of the items that were received come after those before, in order, each once, but for one item that is put aside
 pub record Gathers (d : Delivery) (before : List Item) (frames : List ℕ) (long : Option Item) (after : List Item) (now : List ℕ) (aside : Option Item) : Type 0 where
   pub items : List Item
   pub left : List Item

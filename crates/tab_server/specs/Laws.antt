@@ -1,5 +1,5 @@
 -- Bytes that are sent one after another.
-use Rattle.std.specs.Prelude.{◌≡◌, ℕ, Bool, List, [], ◌++◌, Option, refl}
+use Rattle.std.specs.Prelude.{ℕ, Bool, List, [], ◌++◌, Option, refl}
 use Rattle.tab_etf.proofs.KnownBytesLemmas.{Appends-none, Appends-then}
 use Rattle.std.specs.Io.KnownBytes.{append_known}
 use Rattle.tab_server.specs.declared.answers.Answers.{Answers}

@@ -4,3 +4,5 @@ pub mod Sending
 pub mod Serving
 pub mod Sent
 pub mod Laws
+pub mod Placed
+pub mod Streamed

@@ -119,7 +119,7 @@ impl<H: Host> Connection<H> {
             dispatcher.ring();
             self.line.send_turns(host, shared, dispatcher, notes);
         } else {
-            self.line.send_alone(host, shared, notes);
+            self.line.send_alone(host, alloc, shared, notes);
         }
         self.family.close(&self.stream);
     }

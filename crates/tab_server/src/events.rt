@@ -1,21 +1,19 @@
 //! The events of one connection.
 
-ghost use Rattle.std.specs.Prelude.{◌≡◌, [], ℕ, List, OnOk};
+ghost use Rattle.std.specs.Prelude.{◌≡◌, ◌⊎◌, ◌+◌, ◌<◌, ◌++◌, [], ℕ, List, length, IfOk, OnOk};
 ghost use Rattle.tab_post.specs.Ends.{mailbox_of, received};
 ghost use Rattle.tab_proto.specs.Events.{sent_frames};
-ghost use Rattle.tab_server.specs.Forwarded.{Forwards};
+ghost use Rattle.tab_server.specs.Forwarded.{aside_frames, Forwards, NothingLeft};
 ghost use Rattle.tab_server.specs.Sending.{Goes};
 
 use crate::answers::Unwritten;
 use crate::gate::{Count, Note, Notes};
-use crate::mail::Mail;
 use crate::outlet::{Outlet, SharedSink};
 use std::alloc::Global;
 use std::io::Write;
-use std::mem;
 use tab_book::{Drained, Seat, Shared};
 use tab_etf::event_len;
-use tab_model::Item;
+use tab_model::{Item, SharedItem};
 use tab_post::{Host, Inbox};
 use tab_proto::{Delivery, append_item, append_overflow};
 use tab_sink::FrameSink;
@@ -29,17 +27,18 @@ pub fn event_loop<H: Host, W: Write, N: Notes>(
     alloc: Global,
     shared: &Shared<H>,
     seat: &Seat,
-    inbox: Inbox<H>,
+    inbox: &mut Inbox<H>,
     sink: &FrameSink<W>,
     delivery: Delivery,
     notes: &N,
 ) {
-    let mut mail = Mail::new(alloc, inbox);
+    let mut frames = Vec::new(alloc);
     let mut events = Events {
         host,
         shared,
         seat: *seat,
-        mail: &mut mail,
+        inbox,
+        frames: &mut frames,
         outlet: SharedSink::new(host, sink),
         delivery,
         notes,
@@ -69,7 +68,8 @@ pub struct Events<'a, H: Host, O: Outlet, N: Notes> {
     pub host: &'a H,
     pub shared: &'a Shared<H>,
     pub seat: Seat,
-    pub mail: &'a mut Mail<H>,
+    pub inbox: &'a mut Inbox<H>,
+    pub frames: &'a mut Vec<u8>,
     pub outlet: O,
     pub delivery: Delivery,
     pub notes: &'a N,
@@ -80,13 +80,13 @@ impl<'a, H: Host, O: Outlet, N: Notes> Events<'a, H, O, N> {
     pub fn run(&mut self) -> Result<(), Unwritten>
         ensures sent { OnOk result
             ((bytes : List ℕ)
-            × Forwards self.old.seat self.old.delivery (mailbox_of self.old.mail.now.inbox)
-            (received self.old.mail.now.inbox) (received self.new.mail.now.inbox) bytes
-            × Goes O.sent O.broken self.old.outlet self.old.mail.now.frames.items
-            self.new.outlet self.new.mail.now.frames.items bytes) }
+            × Forwards self.old.seat self.old.delivery (mailbox_of self.old.inbox.now)
+            (received self.old.inbox.now) (received self.new.inbox.now) bytes
+            × Goes O.sent O.broken self.old.outlet self.old.frames.now.items
+            self.new.outlet self.new.frames.now.items bytes) }
     {
         for _ in self.host.forever() {
-            let Some(item) = self.mail.inbox.receive() else {
+            let Some(item) = self.inbox.receive() else {
                 return Ok(());
             };
             self.keep(item.item())?;
@@ -95,13 +95,39 @@ impl<'a, H: Host, O: Outlet, N: Notes> Events<'a, H, O, N> {
         unreachable!()
     }
 
-    /// Sends the item that was put aside, the kept frames, and all items that are in the inbox.
-    pub fn resume(&mut self) -> Result<(), Unwritten> {
-        let taken = mem::replace(&mut self.mail.taken, 0);
-        if let Some(item) = self.mail.long.take() {
-            self.keep(item.item())?;
-        }
+    /// Sends an item that was put aside, if there is one, after the kept frames, and then all items that are in the inbox.
+    pub fn resume(&mut self, long: Option<SharedItem>, taken: usize) -> Result<(), Unwritten>
+        ensures sent { OnOk result
+            ((bytes : List ℕ)
+            × Forwards self.old.seat self.old.delivery (mailbox_of self.old.inbox.now)
+            (received self.old.inbox.now) (received self.new.inbox.now) bytes
+            × Goes O.sent O.broken self.old.outlet self.old.frames.now.items
+            self.new.outlet self.new.frames.now.items
+            (aside_frames self.old.delivery long ++ bytes)) }
+        ensures whole { OnOk result (self.new.frames.now.items ≡ []) }
+        ensures end { OnOk result
+            (NothingLeft self.old.seat (mailbox_of self.old.inbox.now)
+            (received self.new.inbox.now)
+            ⊎ (taken + length (received self.new.inbox.now)
+            < length (received self.old.inbox.now) + self.old.shared.now.outbox)) }
+    {
+        self.keep_aside(&long)?;
         self.send_waiting(taken)
+    }
+
+    fn keep_aside(&mut self, long: &Option<SharedItem>) -> Result<(), Unwritten>
+        ensures bytes { OnOk result
+            (Goes O.sent O.broken self.old.outlet self.old.frames.now.items self.new.outlet
+            self.new.frames.now.items (aside_frames self.old.delivery long.now)) }
+        ensures shared { self.new.shared ≡ self.old.shared }
+        ensures inbox { self.new.inbox.now ≡ self.old.inbox.now }
+        ensures seat { self.new.seat ≡ self.old.seat }
+        ensures delivery { self.new.delivery ≡ self.old.delivery }
+    {
+        match long {
+            Some(item) => self.keep(item.item()),
+            None => Ok(()),
+        }
     }
 
     /// Sends the kept frames, and all items that are in the inbox. `taken` items were received since the inbox was found
@@ -111,37 +137,66 @@ impl<'a, H: Host, O: Outlet, N: Notes> Events<'a, H, O, N> {
     fn send_waiting(&mut self, taken: usize) -> Result<(), Unwritten>
         ensures sent { OnOk result
             ((bytes : List ℕ)
-            × Forwards self.old.seat self.old.delivery (mailbox_of self.old.mail.now.inbox)
-            (received self.old.mail.now.inbox) (received self.new.mail.now.inbox) bytes
-            × Goes O.sent O.broken self.old.outlet self.old.mail.now.frames.items
-            self.new.outlet self.new.mail.now.frames.items bytes) }
-        ensures whole { OnOk result (self.new.mail.now.frames.items ≡ []) }
-        ensures mailbox { mailbox_of self.new.mail.now.inbox ≡ mailbox_of self.old.mail.now.inbox }
+            × Forwards self.old.seat self.old.delivery (mailbox_of self.old.inbox.now)
+            (received self.old.inbox.now) (received self.new.inbox.now) bytes
+            × Goes O.sent O.broken self.old.outlet self.old.frames.now.items
+            self.new.outlet self.new.frames.now.items bytes) }
+        ensures whole { OnOk result (self.new.frames.now.items ≡ []) }
+        ensures mailbox { mailbox_of self.new.inbox.now ≡ mailbox_of self.old.inbox.now }
         ensures seat { self.new.seat ≡ self.old.seat }
         ensures delivery { self.new.delivery ≡ self.old.delivery }
+        ensures end { OnOk result
+            (NothingLeft self.old.seat (mailbox_of self.old.inbox.now)
+            (received self.new.inbox.now)
+            ⊎ (taken + length (received self.new.inbox.now)
+            < length (received self.old.inbox.now) + self.old.shared.now.outbox)) }
     {
         let came = self.keep_waiting()?;
-        if taken.saturating_add(came) >= self.shared.outbox() {
-            self.keep_rest()?;
-        }
+        self.keep_missed(taken, came)?;
         self.send()
+    }
+
+    /// Keeps the remaining items and an overflow, if so many items were received that an item may have been refused.
+    fn keep_missed(&mut self, taken: usize, came: usize) -> Result<(), Unwritten>
+        ensures sent { OnOk result
+            ((bytes : List ℕ)
+            × Forwards self.old.seat self.old.delivery (mailbox_of self.old.inbox.now)
+            (received self.old.inbox.now) (received self.new.inbox.now) bytes
+            × Goes O.sent O.broken self.old.outlet self.old.frames.now.items
+            self.new.outlet self.new.frames.now.items bytes) }
+        ensures mailbox { mailbox_of self.new.inbox.now ≡ mailbox_of self.old.inbox.now }
+        ensures seat { self.new.seat ≡ self.old.seat }
+        ensures delivery { self.new.delivery ≡ self.old.delivery }
+        ensures end { OnOk result
+            (NothingLeft self.old.seat (mailbox_of self.old.inbox.now)
+            (received self.new.inbox.now)
+            ⊎ (taken + came < self.old.shared.now.outbox) × (came < u64.MAX) × (self.new.inbox.now ≡ self.old.inbox.now)) }
+    {
+        if taken.saturating_add(came) < self.shared.outbox() {
+            return Ok(());
+        }
+        self.keep_rest()
     }
 
     /// Keeps all items that are in the inbox, and returns their number.
     fn keep_waiting(&mut self) -> Result<usize, Unwritten>
         ensures sent { OnOk result
             ((bytes : List ℕ)
-            × Forwards self.old.seat self.old.delivery (mailbox_of self.old.mail.now.inbox)
-            (received self.old.mail.now.inbox) (received self.new.mail.now.inbox) bytes
-            × Goes O.sent O.broken self.old.outlet self.old.mail.now.frames.items
-            self.new.outlet self.new.mail.now.frames.items bytes) }
-        ensures mailbox { mailbox_of self.new.mail.now.inbox ≡ mailbox_of self.old.mail.now.inbox }
+            × Forwards self.old.seat self.old.delivery (mailbox_of self.old.inbox.now)
+            (received self.old.inbox.now) (received self.new.inbox.now) bytes
+            × Goes O.sent O.broken self.old.outlet self.old.frames.now.items
+            self.new.outlet self.new.frames.now.items bytes) }
+        ensures mailbox { mailbox_of self.new.inbox.now ≡ mailbox_of self.old.inbox.now }
         ensures seat { self.new.seat ≡ self.old.seat }
         ensures delivery { self.new.delivery ≡ self.old.delivery }
+        ensures count { IfOk result
+            (λ n. n < u64.MAX → length (received self.new.inbox.now)
+            ≡ length (received self.old.inbox.now) + n) }
+        ensures shared { self.new.shared ≡ self.old.shared }
     {
         let mut count: usize = 0;
         for _ in self.host.forever() {
-            let Some(item) = self.mail.inbox.try_receive() else {
+            let Some(item) = self.inbox.try_receive() else {
                 return Ok(count);
             };
             self.keep(item.item())?;
@@ -154,24 +209,24 @@ impl<'a, H: Host, O: Outlet, N: Notes> Events<'a, H, O, N> {
     fn keep_rest(&mut self) -> Result<(), Unwritten>
         ensures sent { OnOk result
             ((bytes : List ℕ)
-            × Forwards self.old.seat self.old.delivery (mailbox_of self.old.mail.now.inbox)
-            (received self.old.mail.now.inbox) (received self.new.mail.now.inbox) bytes
-            × Goes O.sent O.broken self.old.outlet self.old.mail.now.frames.items
-            self.new.outlet self.new.mail.now.frames.items bytes) }
-        ensures mailbox { mailbox_of self.new.mail.now.inbox ≡ mailbox_of self.old.mail.now.inbox }
+            × Forwards self.old.seat self.old.delivery (mailbox_of self.old.inbox.now)
+            (received self.old.inbox.now) (received self.new.inbox.now) bytes
+            × Goes O.sent O.broken self.old.outlet self.old.frames.now.items
+            self.new.outlet self.new.frames.now.items bytes) }
+        ensures mailbox { mailbox_of self.new.inbox.now ≡ mailbox_of self.old.inbox.now }
         ensures seat { self.new.seat ≡ self.old.seat }
         ensures delivery { self.new.delivery ≡ self.old.delivery }
+        ensures end { OnOk result
+            (NothingLeft self.old.seat (mailbox_of self.old.inbox.now)
+            (received self.new.inbox.now)) }
     {
         for _ in self.host.forever() {
-            match self
-                .shared
-                .drained(self.host, &self.seat, &mut self.mail.inbox)
-            {
+            match self.shared.drained(self.host, &self.seat, self.inbox) {
                 Drained::Going(item) => self.keep(item.item())?,
                 Drained::Overflow(number) => {
                     self.notes
                         .note(Note::Overflowed(self.seat.session(), number));
-                    append_overflow(number, &mut self.mail.frames)?;
+                    append_overflow(number, self.frames)?;
                 }
                 Drained::AllTaken | Drained::Left => return Ok(()),
             }
@@ -182,19 +237,20 @@ impl<'a, H: Host, O: Outlet, N: Notes> Events<'a, H, O, N> {
     /// Keeps an item, until some are sent at once.
     fn keep(&mut self, item: &Item) -> Result<(), Unwritten>
         ensures bytes { OnOk result
-            (Goes O.sent O.broken self.old.outlet self.old.mail.now.frames.items self.new.outlet
-            self.new.mail.now.frames.items (sent_frames self.old.delivery item.now)) }
-        ensures inbox { self.new.mail.now.inbox ≡ self.old.mail.now.inbox }
+            (Goes O.sent O.broken self.old.outlet self.old.frames.now.items self.new.outlet
+            self.new.frames.now.items (sent_frames self.old.delivery item.now)) }
+        ensures shared { self.new.shared ≡ self.old.shared }
+        ensures inbox { self.new.inbox.now ≡ self.old.inbox.now }
         ensures seat { self.new.seat ≡ self.old.seat }
         ensures delivery { self.new.delivery ≡ self.old.delivery }
     {
         if is_long(item) {
             self.send_long(item)?;
         } else {
-            append_item(item, self.delivery, &mut self.mail.frames)?;
+            append_item(item, self.delivery, self.frames)?;
         }
         self.notes.count_of(self.seat.session(), Count::Items, 1);
-        if self.mail.frames.len() >= KEPT {
+        if self.frames.len() >= KEPT {
             self.send()?;
         }
         Ok(())
@@ -203,36 +259,36 @@ impl<'a, H: Host, O: Outlet, N: Notes> Events<'a, H, O, N> {
     /// Sends an item after those that are kept, piece by piece.
     fn send_long(&mut self, item: &Item) -> Result<(), Unwritten>
         ensures bytes { OnOk result
-            (Goes O.sent O.broken self.old.outlet self.old.mail.now.frames.items self.new.outlet
-            self.new.mail.now.frames.items (sent_frames self.old.delivery item.now)) }
-        ensures inbox { self.new.mail.now.inbox ≡ self.old.mail.now.inbox }
+            (Goes O.sent O.broken self.old.outlet self.old.frames.now.items self.new.outlet
+            self.new.frames.now.items (sent_frames self.old.delivery item.now)) }
+        ensures shared { self.new.shared ≡ self.old.shared }
+        ensures inbox { self.new.inbox.now ≡ self.old.inbox.now }
         ensures seat { self.new.seat ≡ self.old.seat }
         ensures delivery { self.new.delivery ≡ self.old.delivery }
     {
-        let written = self
-            .outlet
-            .send_item(&mut self.mail.frames, item, self.delivery)?;
+        let written = self.outlet.send_item(self.frames, item, self.delivery)?;
         self.notes
             .count_of(self.seat.session(), Count::Written, written);
-        empty(&mut self.mail.frames);
+        empty(self.frames);
         Ok(())
     }
 
     /// Sends what is kept.
     fn send(&mut self) -> Result<(), Unwritten>
         ensures bytes { OnOk result
-            (Goes O.sent O.broken self.old.outlet self.old.mail.now.frames.items self.new.outlet
-            self.new.mail.now.frames.items []) }
-        ensures whole { OnOk result (self.new.mail.now.frames.items ≡ []) }
-        ensures inbox { self.new.mail.now.inbox ≡ self.old.mail.now.inbox }
+            (Goes O.sent O.broken self.old.outlet self.old.frames.now.items self.new.outlet
+            self.new.frames.now.items []) }
+        ensures whole { OnOk result (self.new.frames.now.items ≡ []) }
+        ensures shared { self.new.shared ≡ self.old.shared }
+        ensures inbox { self.new.inbox.now ≡ self.old.inbox.now }
         ensures seat { self.new.seat ≡ self.old.seat }
         ensures delivery { self.new.delivery ≡ self.old.delivery }
     {
-        self.outlet.send(&self.mail.frames)?;
-        let written = self.mail.frames.len() as u64;
+        self.outlet.send(self.frames)?;
+        let written = self.frames.len() as u64;
         self.notes
             .count_of(self.seat.session(), Count::Written, written);
-        empty(&mut self.mail.frames);
+        empty(self.frames);
         Ok(())
     }
 }

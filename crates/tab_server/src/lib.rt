@@ -12,6 +12,7 @@ mod connection;
 mod dispatcher;
 mod events;
 mod gate;
+mod incoming;
 mod line;
 mod listener;
 mod mail;

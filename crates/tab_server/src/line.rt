@@ -2,11 +2,12 @@
 
 use crate::answers::Unwritten;
 use crate::dispatcher::Dispatcher;
-use crate::events::Events;
+use crate::events::{Events, event_loop};
 use crate::gate::{Count, Notes};
 use crate::mail::{Mail, Progress, Turn};
 use crate::outlet::SharedSink;
 use std::alloc::Global;
+use std::mem;
 use std::net::TcpStream;
 use std::sync::atomic::{AtomicBool, Ordering};
 use std::sync::{Condvar, Mutex, Wait};
@@ -144,11 +145,19 @@ impl<H: Host> Line<H> {
         }
     }
 
-    /// Sends all events in the connection's own thread, without the dispatcher, until the session has left or sending
-    /// fails.
-    pub fn send_alone<N: Notes>(&self, host: &H, shared: &Shared<H>, notes: &N) {
+    /// Sends all events in the connection's own thread, without the dispatcher, until `event_loop` ends.
+    pub fn send_alone<N: Notes>(&self, host: &H, alloc: Global, shared: &Shared<H>, notes: &N) {
         let mut mail = self.mail.lock(host);
-        let _ended = self.events(host, shared, &mut mail, notes).run();
+        event_loop(
+            host,
+            alloc,
+            shared,
+            &self.seat,
+            &mut mail.inbox,
+            &self.sink,
+            self.delivery,
+            notes,
+        );
     }
 
     fn send_all<N: Notes>(
@@ -158,24 +167,18 @@ impl<H: Host> Line<H> {
         mail: &mut Mail<H>,
         notes: &N,
     ) -> Result<(), Unwritten> {
-        self.events(host, shared, mail, notes).resume()
-    }
-
-    fn events<'a, N: Notes>(
-        &'a self,
-        host: &'a H,
-        shared: &'a Shared<H>,
-        mail: &'a mut Mail<H>,
-        notes: &'a N,
-    ) -> Events<'a, H, SharedSink<'a, H, TcpStream>, N> {
-        Events {
+        let long = mail.long.take();
+        let taken = mem::replace(&mut mail.taken, 0);
+        let mut events = Events {
             host,
             shared,
             seat: self.seat,
-            mail,
+            inbox: &mut mail.inbox,
+            frames: &mut mail.frames,
             outlet: SharedSink::new(host, &self.sink),
             delivery: self.delivery,
             notes,
-        }
+        };
+        events.resume(long, taken)
     }
 }

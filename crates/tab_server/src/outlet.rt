@@ -109,8 +109,8 @@ impl<'a, R: Wait, W: Write> SharedSink<'a, R, W> {
         }
     }
 
-    /// Sends a reply. The memory for its pieces is there before the first is written, so that no frame stays unfinished for
-    /// want of memory.
+    /// Sends a reply. The memory for its pieces is reserved before the first is written: otherwise a frame might stay
+    /// unfinished.
     fn reply(&self, frames: &mut Vec<u8>, reply: &Reply) -> Result<u64, FrameFault> {
         frames.reserve(2 * KEPT)?;
         self.sink.hold(self.rt).send_reply(frames, reply)

@@ -1,16 +1,21 @@
 //! The requests of one connection.
 
-ghost use Rattle.std.specs.Prelude.{◌≡◌, ◌≤◌, [], ◌∷◌, List, Option, OnOk, MatchOption, length};
+ghost use Rattle.std.specs.Prelude.{◌≡◌, ◌<◌, ◌≤◌, ◌⊎◌, [], ◌∷◌, ◌++◌, List, ℕ, Option, Some, IfErr, IfOk, IsErr, IsFalse, IsTrue, OnErr, OnOk, MatchOption, length};
+ghost use Rattle.std.specs.Io.KnownBytes.{IsAtEnd};
 ghost use Rattle.tab_etf.specs.Frames.{contents, payload_of};
 ghost use Rattle.tab_model.specs.declared.data.Reply.{Reply as ReplyOf};
+ghost use Rattle.tab_server.specs.declared.incoming.Incoming.{Incoming as IncomingOf};
+ghost use Rattle.tab_server.specs.declared.requests.Ending.TheVariants.{Over};
 ghost use Rattle.tab_server.specs.Sending.{reply_frames};
 ghost use Rattle.tab_server.specs.Sent.{AreAnswered, IsAnswered, Sends};
 ghost use Rattle.tab_server.specs.Serving.{IsPayloadReply, IsEnded};
+ghost use Rattle.tab_server.specs.Streamed.{AnswersTooLong, Gives, IsIn, IsSkipped, IsStreamAnswered, IsStreamStopped, SendsAnswers, SendsLast, TakesLast, TakesPart};
 
 use crate::answers::{Answers, Unwritten};
 use crate::connection::Connection;
 use crate::dispatcher::Dispatcher;
 use crate::gate::{Count, Gate};
+use crate::incoming::Incoming;
 use crate::line::Line;
 use crate::outlet::{Outlet, SharedSink};
 use crate::place::Place;
@@ -22,7 +27,7 @@ use crate::watch::Watch;
 use std::alloc::Global;
 use std::io::{ErrorKind, Read};
 use tab_book::{Held, Seat, Shared};
-use tab_etf::{EtfFault, Frame, FrameFault, Splitter, decode};
+use tab_etf::{EtfFault, Frame, FrameFault, decode};
 use tab_model::{Command, Reply, SharedReply};
 use tab_post::Host;
 use tab_proto::{ProtoFault, read_command};
@@ -49,9 +54,8 @@ pub struct Requests<'a, H: Host, O: Outlet, G: Gate> {
     pub held: Held<'a, H>,
     pub transactions: Transactions,
     pub puts: Puts,
-    /// The position of the stream, and whether the frame there is skipped.
+    /// The position of the stream.
     pub place: Place,
-    pub skips: bool,
     pub silence: Silence,
     /// True if an abort ends the wait of the operation before it.
     pub aborts: bool,
@@ -96,7 +100,6 @@ pub fn serve_session<H: Host, R: Read, G: Gate>(
         transactions: Transactions::new(seat.session()),
         puts: Puts::new(),
         place: Place::new(),
-        skips: false,
         silence: Silence::new(connection.settings),
         aborts: connection.settings.aborts,
         behind: Behind::Nothing,
@@ -126,34 +129,95 @@ impl<'a, H: Host, O: Outlet, G: Gate> Requests<'a, H, O, G> {
         self.transactions.count(self.answers.counts());
     }
 
-    fn stream<R: Read>(&mut self, reader: &mut R) -> Result<Ending, Unwritten> {
-        let mut splitter = Splitter::new(self.alloc);
-        let Ok(mut piece) = vec![in self.alloc; 0u8; PIECE] else {
+    /// Answers the requests of a stream until it ends, or the session is idle for too long.
+    fn stream<R: Read>(&mut self, reader: &mut R) -> Result<Ending, Unwritten>
+        ensures answered { OnOk result (IsStreamAnswered O.sent O.broken self.old.seat
+            (R.remaining reader.old) (R.remaining reader.new) self.old.answers self.new.answers) }
+        ensures end { IfOk result (λ end. end ≡ Over → IsAtEnd (R.remaining reader.new)) }
+        ensures err { OnErr result (IsFalse (O.broken self.new.answers.outlet)
+            → IsStreamAnswered O.sent O.broken self.old.seat
+            (R.remaining reader.old) (R.remaining reader.new) self.old.answers self.new.answers
+            ⊎ IsStreamStopped O.sent O.broken self.old.seat
+            (R.remaining reader.old) (R.remaining reader.new) self.old.answers self.new.answers) }
+        ensures whole { OnOk result (self.old.answers.frames.items ≡ []
+            → self.new.answers.frames.items ≡ []) }
+    {
+        let Ok(mut buffer) = vec![in self.alloc; 0u8; PIECE] else {
             return Err(Unwritten);
         };
+        self.pieces(reader, &mut buffer)
+    }
+
+    /// Reads pieces of a stream into a buffer, and answers their frames.
+    fn pieces<R: Read>(&mut self, reader: &mut R, buffer: &mut [u8]) -> Result<Ending, Unwritten>
+        ensures answered { OnOk result (IsStreamAnswered O.sent O.broken self.old.seat
+            (R.remaining reader.old) (R.remaining reader.new) self.old.answers self.new.answers) }
+        ensures end { IfOk result (λ end. end ≡ Over → 0 < length buffer.old
+            → IsAtEnd (R.remaining reader.new)) }
+        ensures err { OnErr result (IsFalse (O.broken self.new.answers.outlet)
+            → IsStreamAnswered O.sent O.broken self.old.seat
+            (R.remaining reader.old) (R.remaining reader.new) self.old.answers self.new.answers
+            ⊎ IsStreamStopped O.sent O.broken self.old.seat
+            (R.remaining reader.old) (R.remaining reader.new) self.old.answers self.new.answers) }
+        ensures whole { OnOk result (self.old.answers.frames.items ≡ []
+            → self.new.answers.frames.items ≡ []) }
+    {
+        let mut incoming = Incoming::new(self.alloc);
         for _ in self.host.forever() {
-            match reader.read(&mut piece) {
-                Ok(0) => return Ok(Ending::Over),
-                Ok(count) => {
-                    self.silence.end();
-                    self.answers.counts().count(Count::Read, count as u64);
-                    self.piece(&mut splitter, &piece[..count])?;
-                }
-                Err(error) if matches!(error.kind(), ErrorKind::WouldBlock) => {
-                    if self.is_silent() {
-                        return Ok(Ending::Idle);
-                    }
-                }
-                // A process that was stopped goes on: a read with a time limit is not begun again by the system.
-                Err(error) if matches!(error.kind(), ErrorKind::Interrupted) => {}
-                Err(_) => return Err(Unwritten),
+            if let Some(end) = self.read_once(reader, &mut incoming, buffer)? {
+                return Ok(end);
             }
         }
         unreachable!()
     }
 
+    /// Reads once, and answers the frames that are whole then. It returns the reason, if the session ends.
+    fn read_once<R: Read>(
+        &mut self,
+        reader: &mut R,
+        incoming: &mut Incoming,
+        buffer: &mut [u8],
+    ) -> Result<Option<Ending>, Unwritten>
+        ensures answered { OnOk result ((at : List ℕ) → IsIn at incoming.old
+            → TakesPart O.sent O.broken self.old.seat (R.remaining reader.old)
+            (R.remaining reader.new) at incoming.old incoming.new self.old.answers self.new.answers) }
+        ensures end { IfOk result (λ end. end ≡ Some Over → 0 < length buffer.old
+            → IsAtEnd (R.remaining reader.new)) }
+        ensures err { OnErr result (IsFalse (O.broken self.new.answers.outlet)
+            → (at : List ℕ) → IsIn at incoming.old
+            → TakesPart O.sent O.broken self.old.seat (R.remaining reader.old)
+            (R.remaining reader.new) at incoming.old incoming.new self.old.answers self.new.answers
+            ⊎ TakesLast O.sent O.broken self.old.seat (R.remaining reader.old)
+            (R.remaining reader.new) at incoming.old self.old.answers self.new.answers) }
+        ensures whole { OnOk result (self.old.answers.frames.items ≡ []
+            → self.new.answers.frames.items ≡ []) }
+        ensures seat { self.new.seat ≡ self.old.seat }
+    {
+        match reader.read(buffer) {
+            Ok(0) => Ok(Some(Ending::Over)),
+            Ok(count) => {
+                self.silence.end();
+                self.answers.counts().count(Count::Read, count as u64);
+                self.piece(incoming, &buffer[..count])?;
+                Ok(None)
+            }
+            Err(error) if matches!(error.kind(), ErrorKind::WouldBlock) => {
+                if self.is_silent() {
+                    return Ok(Some(Ending::Idle));
+                }
+                Ok(None)
+            }
+            // A process that was stopped goes on: a read with a time limit is not begun again by the system.
+            Err(error) if matches!(error.kind(), ErrorKind::Interrupted) => Ok(None),
+            Err(_) => Err(Unwritten),
+        }
+    }
+
     /// Notes that a read has ended without bytes. Returns whether the session leaves since it is idle.
-    fn is_silent(&mut self) -> bool {
+    fn is_silent(&mut self) -> bool
+        ensures seat { self.new.seat ≡ self.old.seat }
+        ensures answers { self.new.answers ≡ self.old.answers }
+    {
         self.silence.pass();
         self.silence.ends_sessions() && !self.line.watches()
             || self.silence.ends_transactions() && self.ends_transaction()
@@ -161,7 +225,10 @@ impl<'a, H: Host, O: Outlet, G: Gate> Requests<'a, H, O, G> {
 
     /// Ends the transaction, and returns whether one was open. The reply to an abort shows it, and it changes nothing
     /// if none is.
-    fn ends_transaction(&mut self) -> bool {
+    fn ends_transaction(&mut self) -> bool
+        ensures seat { self.new.seat ≡ self.old.seat }
+        ensures answers { self.new.answers ≡ self.old.answers }
+    {
         let reason = Term::List(Terms::from_vec(Vec::new(self.alloc)));
         let told = self.make(Command::Abort(reason));
         self.give_back();
@@ -172,71 +239,135 @@ impl<'a, H: Host, O: Outlet, G: Gate> Requests<'a, H, O, G> {
     }
 
     /// Answers the frames that are whole with this piece.
-    fn piece(&mut self, splitter: &mut Splitter, piece: &[u8]) -> Result<(), Unwritten> {
-        let piece = &piece[self.skipped(piece)..];
-        match splitter.feed(piece) {
+    fn piece(&mut self, incoming: &mut Incoming, piece: &[u8]) -> Result<(), Unwritten>
+        ensures answered { OnOk result ((at : List ℕ) → IsIn at incoming.old
+            → SendsAnswers O.sent O.broken self.old.seat (at ++ piece.now)
+            incoming.old incoming.new self.old.answers self.new.answers) }
+        ensures err { OnErr result (IsFalse (O.broken self.new.answers.outlet)
+            → (at : List ℕ) → IsIn at incoming.old
+            → SendsLast O.sent O.broken self.old.seat (at ++ piece.now)
+            incoming.old self.old.answers self.new.answers) }
+        ensures whole { OnOk result (self.old.answers.frames.items ≡ []
+            → self.new.answers.frames.items ≡ []) }
+        ensures seat { self.new.seat ≡ self.old.seat }
+    {
+        let count = incoming.skip(piece);
+        if incoming.is_over() {
+            return Err(Unwritten);
+        }
+        if count == piece.len() {
+            return Ok(());
+        }
+        self.feed(incoming, &piece[count..])
+    }
+
+    /// Answers the frames that are whole with these bytes, if none of them is skipped.
+    fn feed(&mut self, incoming: &mut Incoming, piece: &[u8]) -> Result<(), Unwritten>
+        ensures answered { OnOk result ((at : List ℕ) → IsIn at incoming.old
+            → IsFalse incoming.old.skips
+            → SendsAnswers O.sent O.broken self.old.seat (at ++ piece.now)
+            incoming.old incoming.new self.old.answers self.new.answers) }
+        ensures err { OnErr result (IsFalse (O.broken self.new.answers.outlet)
+            → (at : List ℕ) → IsIn at incoming.old → IsFalse incoming.old.skips
+            → SendsLast O.sent O.broken self.old.seat (at ++ piece.now)
+            incoming.old self.old.answers self.new.answers) }
+        ensures whole { OnOk result (self.old.answers.frames.items ≡ []
+            → self.new.answers.frames.items ≡ []) }
+        ensures seat { self.new.seat ≡ self.old.seat }
+    {
+        match incoming.feed(piece) {
             Ok(frames) => {
-                self.pass(piece);
+                self.place = incoming.place();
                 self.frames(&frames)
             }
-            Err(FrameFault::FrameTooLong(_)) => self.too_long(splitter),
-            Err(_) => self.one_by_one(splitter, piece),
+            Err(fault) => match fault {
+                FrameFault::FrameTooLong(_) => self.too_long(incoming),
+                _ => self.one_by_one(incoming, piece),
+            },
         }
     }
 
-    /// The number of bytes of a piece that belong to a frame that is skipped.
-    fn skipped(&mut self, piece: &[u8]) -> usize
-        ensures { result ≤ length piece.now }
+    /// Answers the frames before one whose length is over the limit, and then that one.
+    fn too_long(&mut self, incoming: &Incoming) -> Result<(), Unwritten>
+        ensures err { IsErr result }
+        ensures last { IsFalse (O.broken self.new.answers.outlet)
+            → AnswersTooLong O.sent O.broken self.old.seat incoming.now.splitter.before
+            self.old.answers self.new.answers }
+        ensures seat { self.new.seat ≡ self.old.seat }
     {
-        if !self.skips {
-            return 0;
-        }
-        let count = self.place.pass(piece);
-        self.skips = !self.place.is_between();
-        count
-    }
-
-    fn pass(&mut self, piece: &[u8]) {
-        let mut rest = piece;
-        for _ in self.host.forever() {
-            if rest.is_empty() {
-                return;
-            }
-            rest = &rest[self.place.pass(rest)..];
-        }
-    }
-
-    fn too_long(&mut self, splitter: &Splitter) -> Result<(), Unwritten> {
-        self.frames(splitter.before_fault())?;
-        self.answers.begin();
-        self.answers.keep(&Reply::BadTerm)?;
-        self.answers.write()?;
+        self.frames(incoming.before_fault())?;
+        self.reply(&Reply::BadTerm)?;
         Err(Unwritten)
     }
 
     /// Takes the frames of a piece one by one, if memory is short. A frame for which there still is none is refused,
     /// and skipped.
-    fn one_by_one(&mut self, splitter: &mut Splitter, piece: &[u8]) -> Result<(), Unwritten> {
+    fn one_by_one(&mut self, incoming: &mut Incoming, piece: &[u8]) -> Result<(), Unwritten>
+        ensures answered { OnOk result ((at : List ℕ) → IsIn at incoming.old
+            → IsFalse incoming.old.skips
+            → SendsAnswers O.sent O.broken self.old.seat (at ++ piece.now)
+            incoming.old incoming.new self.old.answers self.new.answers) }
+        ensures err { OnErr result (IsFalse (O.broken self.new.answers.outlet)
+            → (at : List ℕ) → IsIn at incoming.old → IsFalse incoming.old.skips
+            → SendsLast O.sent O.broken self.old.seat (at ++ piece.now)
+            incoming.old self.old.answers self.new.answers) }
+        ensures whole { OnOk result (self.old.answers.frames.items ≡ []
+            → self.new.answers.frames.items ≡ []) }
+        ensures seat { self.new.seat ≡ self.old.seat }
+    {
         let mut rest = piece;
         for _ in self.host.forever() {
             if rest.is_empty() {
                 return Ok(());
             }
-            let count = self.place.pass(rest);
-            match splitter.feed(&rest[..count]) {
-                Ok(frames) => self.frames(&frames)?,
-                Err(FrameFault::FrameTooLong(_)) => return self.too_long(splitter),
-                Err(_) => {
-                    *splitter = Splitter::new(self.alloc);
-                    self.skips = !self.place.is_between();
-                    self.answers.begin();
-                    self.answers.keep(&Reply::NoMemory)?;
-                    self.answers.write()?;
-                }
-            }
+            let (count, taken) = incoming.feed_part(rest);
+            self.place = incoming.place();
+            self.answer_part(incoming, taken)?;
             rest = &rest[count..];
         }
         unreachable!()
+    }
+
+    /// Answers the frame that is whole with a part of a piece, if one is. If it could not be taken, it is refused.
+    fn answer_part(
+        &mut self,
+        incoming: &Incoming,
+        taken: Result<Vec<Frame>, FrameFault>,
+    ) -> Result<(), Unwritten>
+        ensures answered { OnOk result ((bytes : List ℕ) (old : IncomingOf) → IsFalse old.skips
+            → IfOk taken (λ frames. Gives bytes incoming.now (contents frames.items))
+            → IfErr taken (λ e. IsSkipped e bytes old incoming.now)
+            → SendsAnswers O.sent O.broken self.old.seat bytes old incoming.now
+            self.old.answers self.new.answers) }
+        ensures err { OnErr result (IsFalse (O.broken self.new.answers.outlet)
+            → (bytes : List ℕ) (old : IncomingOf) → IsFalse old.skips
+            → IfOk taken (λ frames. Gives bytes incoming.now (contents frames.items))
+            → IfErr taken (λ e. IsSkipped e bytes old incoming.now)
+            → SendsLast O.sent O.broken self.old.seat bytes old self.old.answers self.new.answers) }
+        ensures whole { OnOk result (self.new.answers.frames.items ≡ []) }
+        ensures seat { self.new.seat ≡ self.old.seat }
+    {
+        match taken {
+            Ok(frames) => self.frames(&frames),
+            Err(fault) => match fault {
+                FrameFault::FrameTooLong(_) => self.too_long(incoming),
+                _ => self.reply(&Reply::NoMemory),
+            },
+        }
+    }
+
+    /// Sends the reply to a frame that is not read.
+    fn reply(&mut self, reply: &Reply) -> Result<(), Unwritten>
+        ensures sends { OnOk result (Sends O.sent O.broken self.old.answers self.new.answers
+            (reply_frames (Some reply.now ∷ []))) }
+        ensures whole { OnOk result (self.new.answers.frames.items ≡ []) }
+        ensures err { OnErr result (IsTrue (O.broken self.new.answers.outlet)) }
+        ensures seat { self.new.seat ≡ self.old.seat }
+    {
+        self.answers.begin();
+        self.answers.keep(reply)?;
+        self.answers.write()?;
+        Ok(())
     }
 
     /// Answers frames, in order, and writes the replies.
@@ -246,6 +377,7 @@ impl<'a, H: Host, O: Outlet, G: Gate> Requests<'a, H, O, G> {
             × AreAnswered self.old.seat (contents frames.now) replies
             × Sends O.sent O.broken self.old.answers self.new.answers (reply_frames replies)) }
         ensures whole { OnOk result (self.new.answers.frames.items ≡ []) }
+        ensures err { OnErr result (IsTrue (O.broken self.new.answers.outlet)) }
         ensures seat { self.new.seat ≡ self.old.seat }
     {
         let mut rest = frames;
@@ -264,6 +396,7 @@ impl<'a, H: Host, O: Outlet, G: Gate> Requests<'a, H, O, G> {
             × IsAnswered self.old.seat (payload_of frame.now) told
             × Sends O.sent O.broken self.old.answers self.new.answers
             (reply_frames (told ∷ []))) }
+        ensures err { OnErr result (IsTrue (O.broken self.new.answers.outlet)) }
         ensures seat { self.new.seat ≡ self.old.seat }
     {
         self.answers.begin();

@@ -170,7 +170,7 @@ fn send_events<H: Host>(
     alloc: Global,
     shared: &Shared<H>,
     reader: Seat,
-    inbox: Inbox<H>,
+    mut inbox: Inbox<H>,
     pipe: &Pipe,
 ) {
     let sink = FrameSink::new(Held { host, pipe });
@@ -179,7 +179,7 @@ fn send_events<H: Host>(
         alloc,
         shared,
         &reader,
-        inbox,
+        &mut inbox,
         &sink,
         Delivery::Events,
         &Open,

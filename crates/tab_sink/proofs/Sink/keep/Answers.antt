@@ -17,4 +17,4 @@ returns-clause-bytes g c =
     let before = append_known a (rest_of c.args.self.now.rest) in
     let after = append_known a (drop rest.from items) in
     subst (λ (xs : List ℕ). Appends before after xs) (sym (take_all (length bytes) bytes (omega arith)))
-        (given_more a (rest_of c.args.self.now.rest) (drop rest.from items) bytes (kept ∙ ap (λ (r : List ℕ). r ++ bytes) old))
+    (given_more a (rest_of c.args.self.now.rest) (drop rest.from items) bytes (kept ∙ ap (λ (r : List ℕ). r ++ bytes) old))

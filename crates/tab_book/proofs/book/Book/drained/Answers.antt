@@ -10,8 +10,8 @@ pub returns-clause-of_a_running_book : goal.returns-clause-of_a_running_book
 returns-clause-of_a_running_book g c =
     record {
       book = c.args.self.now;
-      next = c.self.now;
+      next = c.next_at-drained.new.self;
       runs = c.journal.ensures.running;
-      drains = c.next_at.ensures.drained;
+      drains = c.next_at-drained.ensures.drained;
       runs_on = subst IsRunning c.self.view_is (running (length c.self.inside.prefix) c.self.inside.core c.self.inside.journal c.self.invariant);
     }

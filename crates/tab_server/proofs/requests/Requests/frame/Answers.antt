@@ -6,7 +6,7 @@ use Rattle.tab_server.proofs.requests.Requests.frame.Goals as goal
 
 pub returns-clause-answered : goal.returns-clause-answered
 returns-clause-answered g c =
-    on_ok c.keep.result c.keep.ensures (λ kept.
+    on_ok c.keep.result c.keep.ensures.bytes (λ kept.
     let told = c.in-Some.told in
     let sent : Goes g.O.Outlet.sent g.O.Outlet.broken c.args.self.now.answers.outlet c.args.self.now.answers.frames.items c.keep.new.self.outlet c.keep.new.self.frames.items (reply_frame c.reply.result.now) =
     sends_on g.O.Outlet.sent g.O.Outlet.broken c.args.self.now.answers c.reply_to_frame.new.self.answers c.keep.new.self [] (reply_frame c.reply.result.now) c.reply_to_frame.ensures.sends kept in (

@@ -1,0 +1,36 @@
+use Rattle.std.proofs.Common.{◌∙◌, refl, ap, subst, arith, ℕ, List}
+use Rattle.tab_model.specs.declared.data.Item.{Item}
+use Rattle.tab_post.specs.Ends.{mailbox_of, received}
+use Rattle.tab_proto.specs.declared.events.Delivery.{Delivery}
+use Rattle.tab_proto.specs.Events.{sent_frames}
+use Rattle.tab_server.specs.Sending.{Goes}
+use Rattle.tab_server.proofs.Forwarding.{one_more, passes_none, passes_item, passes_then}
+use Rattle.tab_server.proofs.events.Events.keep_waiting.Goals as goal
+
+pub loop-init : goal.loop-init
+loop-init g c =
+    let now = c.args.self.now in (tt, tt, refl, refl, refl, refl, λ _. omega arith, passes_none g.O.Outlet.sent g.O.Outlet.broken now.seat now.delivery (mailbox_of now.inbox.now) (received now.inbox.now) now.outlet now.frames.now.items)
+
+pub loop-preserved : goal.loop-preserved
+loop-preserved g c =
+    let S = g.O.Outlet.sent in
+    let B = g.O.Outlet.broken in
+    let n = c.args.self.now.seat in
+    let d = c.args.self.now.delivery in
+    let m = mailbox_of c.args.self.now.inbox.now in
+    let first = received c.args.self.now.inbox.now in
+    let old = c.loop.self in
+    let new = c.keep.new.self in
+    let bytes = ap (λ (e : Delivery). sent_frames e c.item.result.now) c.loop.invariant.4 ∙ ap (λ (i : Item). sent_frames d i) c.item.ensures in
+    let goes = subst (λ (r : List ℕ). Goes S B old.outlet old.frames.now.items new.outlet new.frames.now.items r) bytes c.in_ok-keep.ensures.bytes in
+    let taken = ap received c.keep.ensures.inbox ∙ c.in-Some-try_receive.ensures.next in (
+      tt,
+      tt,
+      ap mailbox_of c.keep.ensures.inbox ∙ c.in-Some-try_receive.ensures.stays.1 ∙ c.loop.invariant.2,
+      c.keep.ensures.seat ∙ c.loop.invariant.3,
+      c.keep.ensures.delivery ∙ c.loop.invariant.4,
+      c.keep.ensures.shared ∙ c.loop.invariant.5,
+      one_more first (received old.inbox.now) (received new.inbox.now) _ _ _ taken c.loop.invariant.6 c.saturating_add-count.ensures,
+      passes_then S B n d m first (received old.inbox.now) (received new.inbox.now) _ _ _ _ _ _ c.loop.invariant.7
+          (passes_item S B n d m (received old.inbox.now) (received new.inbox.now) old.outlet new.outlet old.frames.now.items new.frames.now.items c.in-Some-try_receive.item taken goes),
+    )

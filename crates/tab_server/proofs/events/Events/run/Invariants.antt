@@ -1,0 +1,11 @@
+use Rattle.std.proofs.Common.{◌≡◌}
+use Rattle.tab_post.specs.Ends.{mailbox_of, received}
+use Rattle.tab_server.proofs.Forwarding.{Passes}
+use Rattle.tab_server.proofs.events.Events.run.Given as goal
+
+abbrev pub invariant-loop : goal.invariant-loop
+invariant-loop g l =
+    (goal.iterator-loop g).can_next l.iterator' × (goal.iterator-loop g).is_finite l.iterator'
+    × (mailbox_of l.self.inbox.now ≡ mailbox_of l.initial.self.inbox.now) × (l.self.seat ≡ l.initial.self.seat) × (l.self.delivery ≡ l.initial.self.delivery)
+    × Passes g.O.Outlet.sent g.O.Outlet.broken l.initial.self.seat l.initial.self.delivery (mailbox_of l.initial.self.inbox.now)
+    (received l.initial.self.inbox.now) l.initial.self.outlet l.initial.self.frames.now.items (received l.self.inbox.now) l.self.outlet l.self.frames.now.items
