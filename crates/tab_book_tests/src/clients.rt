@@ -1,7 +1,7 @@
 //! Sessions of a shared book. What only sends commands and takes items is generic over these traits, since each function that
 //! names the book's type has all of it in its proof.
 
-use std::alloc::{AllocError, Global};
+use std::alloc::AllocError;
 use std::test::Fail;
 use tab_book::{Drained, Seat, Shared};
 use tab_lists::EventTerms;
