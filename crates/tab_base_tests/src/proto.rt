@@ -1,16 +1,14 @@
-//! Tests of tab_proto: commands as payloads of the external term format, items as frames, and of tab_model's copies. The built
-//! program's streams show requests and replies.
+//! Tests of tab_proto: commands as payloads of the external term format, replies within a bound, and of tab_model's copies. The
+//! built program's streams show requests, replies and items.
 
+use crate::etf::answers::{Shape, answers};
 use std::alloc::{AllocError, Global};
 use std::test::Fail;
-use tab_etf::{Counted, decode};
-use tab_lists::{Answer, Answers, EventTerm, EventTerms, SharedEvent, SharedTerms, Tag};
-use tab_model::{Command, Ending, Item, Level, Reply};
-use tab_proto::{
-    Delivery, append_item, append_reply, append_reply_within, command, term_of, write_item,
-    write_reply,
-};
-use tab_term::{Atom, Term, Terms};
+use tab_etf::{EncodeFault, decode};
+use tab_lists::SharedTerms;
+use tab_model::{Command, Reply};
+use tab_proto::{append_reply, append_reply_within, command, term_of};
+use tab_term::{Term, Terms};
 
 /// Payloads of every command.
 static COMMANDS: [&[u8]; 22] = [
@@ -53,22 +51,6 @@ static NO_COMMANDS: [&[u8]; 9] = [
     b"\x83h\x03w\x0bunsubscribeh\x03w\x05tablew\x01tw\x06simplew\x04dump",
 ];
 
-/// The frames of an item by its events, and whole.
-static SENT: [(&[u8], &[u8]); 3] = [
-    (
-        b"\0\0\0\x21\x83h\x03w\x10mnesia_table_endw\x01tw\x07deleted",
-        b"\0\0\0\x21\x83h\x03w\x10mnesia_table_endw\x01tw\x07deleted",
-    ),
-    (
-        b"\0\0\0\x27\x83h\x04w\x12mnesia_table_beginw\x01tw\x06simplek\0\x02\x03\x04",
-        b"\0\0\0\x27\x83h\x04w\x12mnesia_table_beginw\x01tw\x06simplek\0\x02\x03\x04",
-    ),
-    (
-        b"\0\0\0\x33\x83h\x02w\x12mnesia_table_eventh\x03w\x05writeh\x03w\x01ta\x01w\x01ah\x02w\x03tida\x01\0\0\0\x39\x83h\x02w\x12mnesia_table_eventh\x05w\x06deletew\x01th\x02w\x01ta\x01k\0\x02\x03\x04h\x02w\x03tida\x02",
-        b"\0\0\0\x7c\x83h\x03w\x05batcha\x07l\0\0\0\x02h\x02w\x12mnesia_table_eventh\x03w\x05writeh\x03w\x01ta\x01w\x01ah\x02w\x03tida\x01h\x02w\x12mnesia_table_eventh\x05w\x06deletew\x01th\x02w\x01ta\x01k\0\x02\x03\x04h\x02w\x03tida\x02j",
-    ),
-];
-
 fn copied(alloc: Global, command: &Command) -> Result<Term, AllocError> {
     match command {
         Command::Do(operation) => {
@@ -98,84 +80,6 @@ fn commands_are_read_and_told(rt: HostRuntime) -> Result<(), Fail> {
         let held = decode(alloc, payload)?;
         assert!(rt; told_again(alloc, &held).is_none(), "line {line}");
     }
-    Ok(())
-}
-
-/// The write of a record as a simple event, and the deletion of its key as a detailed one.
-fn batch_of(alloc: Global, old: SharedTerms) -> Result<Item, Fail> {
-    let record = decode(alloc, b"\x83h\x03w\x01ta\x01w\x01a")?;
-    let place = decode(alloc, b"\x83h\x02w\x01ta\x01")?;
-    let table = Atom::from_short_text(alloc, "t")?;
-    let write = EventTerm::simple(Tag::Write, record, 1);
-    let deletion = EventTerm::detailed(Tag::Delete, table, place, old, 2);
-    let mut events = EventTerms::new(alloc);
-    events.push(SharedEvent::new(alloc, write)?)?;
-    events.push(SharedEvent::new(alloc, deletion)?)?;
-    Ok(Item::Batch(7, events))
-}
-
-/// An end marker, a begin marker with a dump, or a batch: the last two hold 3 and 4.
-fn item_of(alloc: Global, number: usize) -> Result<Item, Fail> {
-    let mut terms = Vec::new(alloc);
-    terms.push(Term::Int(3))?;
-    terms.push(Term::Int(4))?;
-    let terms = SharedTerms::from_terms(Terms::from_vec(terms));
-    let table = Atom::from_short_text(alloc, "t")?;
-    Ok(match number {
-        0 => Item::Ended(table, Ending::Deleted),
-        1 => Item::Began(table, Level::Simple, Some(terms)),
-        _ => batch_of(alloc, terms)?,
-    })
-}
-
-/// Returns whether these frames are added to bytes, and are written to a device.
-fn is_sent(alloc: Global, item: &Item, delivery: Delivery, frames: &[u8]) -> Result<bool, Fail> {
-    let mut added = Vec::new(alloc);
-    append_item(item, delivery, &mut added)?;
-    let mut device = Counted::new(Vec::new(alloc));
-    write_item(&mut device, item, delivery)?;
-    Ok(added.as_slice() == frames && device.into_inner().as_slice() == frames)
-}
-
-#[test]
-fn items_are_sent(rt: HostRuntime) -> Result<(), Fail> {
-    let alloc = rt.alloc();
-    for (line, (by_events, whole)) in SENT.iter().enumerate() {
-        let item = item_of(alloc, line)?;
-        assert!(rt;
-            is_sent(alloc, &item, Delivery::Events, by_events)?,
-            "line {line}, by events"
-        );
-        assert!(rt;
-            is_sent(alloc, &item, Delivery::Batches, whole)?,
-            "line {line}, whole"
-        );
-    }
-    Ok(())
-}
-
-/// Both of a pair of lists are encoded, the second when the first is gone.
-#[test]
-fn replies_are_spelled(rt: HostRuntime) -> Result<(), Fail> {
-    let alloc = rt.alloc();
-    let mut records = Vec::new(alloc);
-    records.push(Term::Int(3))?;
-    let records = SharedTerms::from_terms(Terms::from_vec(records));
-    let (first, second) = records.pair(alloc)?;
-    let (first, second) = (Reply::Found(first), Reply::Found(second));
-    let mut frame = Vec::new(alloc);
-    append_reply(Some(7), &first, &mut frame)?;
-    drop(first);
-    assert_eq!(rt;
-        frame.as_slice(),
-        b"\0\0\0\x09\x83h\x02a\x07k\0\x01\x03".as_slice()
-    );
-    let mut device = Counted::new(Vec::new(alloc));
-    write_reply(&mut device, None, &second)?;
-    assert_eq!(rt;
-        device.into_inner().as_slice(),
-        b"\0\0\0\x0e\x83h\x02w\x05replyk\0\x01\x03".as_slice()
-    );
     Ok(())
 }
 
@@ -231,55 +135,67 @@ fn lists_are_added_within_a_bound(rt: HostRuntime) -> Result<(), Fail> {
     Ok(())
 }
 
-/// `ok`, two lists, an abort, and a child that found nothing.
-fn some_answers(alloc: Global) -> Result<Answers, Fail> {
-    let mut inner = Answers::new(alloc);
-    inner.push(Answer::Found(list_in(alloc, b"\x83j")?))?;
-    let mut answers = Answers::new(alloc);
-    answers.push(Answer::Done)?;
-    answers.push(Answer::Found(list_in(alloc, b"\x83k\0\x01\x03")?))?;
-    answers.push(Answer::Found(list_in(alloc, b"\x83l\0\0\0\x01w\x01aj")?))?;
-    answers.push(Answer::Aborted(Term::Int(7)))?;
-    answers.push(Answer::Atomic(inner))?;
-    Ok(answers)
-}
+/// Answers of transactions, and the frame of their reply: none; and `ok`, two lists, an abort, and a child that found
+/// nothing.
+static ANSWERS: [(&[Shape], &[u8]); 2] = [
+    (&[], b"\0\0\0\x15\x83h\x02w\x05replyh\x02w\x06atomicj"),
+    (
+        &[
+            Shape::Done,
+            Shape::Found(&[3]),
+            Shape::Found(&[300]),
+            Shape::Aborted(7),
+            Shape::Atomic(&[Shape::Found(&[])]),
+        ],
+        b"\0\0\0\x4b\x83h\x02w\x05replyh\x02w\x06atomicl\0\0\0\x05w\x02okk\0\x01\x03l\0\0\0\x01b\0\0\x01\x2cjh\x02w\x07aborteda\x07h\x02w\x06atomicl\0\0\0\x01jjj",
+    ),
+];
 
 #[test]
 fn answers_are_added_within_a_bound(rt: HostRuntime) -> Result<(), Fail> {
     let alloc = rt.alloc();
-    let none = Reply::AtomicTerms(Answers::new(alloc));
-    assert!(rt;
-        is_within(
-            alloc,
-            &none,
-            b"\0\0\0\x15\x83h\x02w\x05replyh\x02w\x06atomicj"
-        )?
-    );
-    let some = Reply::AtomicTerms(some_answers(alloc)?);
-    let frame =
-        b"\0\0\0\x49\x83h\x02w\x05replyh\x02w\x06atomicl\0\0\0\x05w\x02okk\0\x01\x03l\0\0\0\x01w\x01ajh\x02w\x07aborteda\x07h\x02w\x06atomicl\0\0\0\x01jjj";
-    assert!(rt; is_within(alloc, &some, frame)?);
+    for (line, (shapes, frame)) in ANSWERS.iter().enumerate() {
+        let reply = Reply::AtomicTerms(answers(alloc, shapes)?);
+        assert!(rt; is_within(alloc, &reply, frame)?, "line {line}");
+    }
     Ok(())
 }
 
-/// A list of more bytes than a string has room for, and a reply that holds no list, which has no bound.
-#[test]
-fn long_lists_and_short_replies_are_added(rt: HostRuntime) -> Result<(), Fail> {
-    let alloc = rt.alloc();
+/// A list of more bytes than a string has room for.
+fn long_reply(alloc: Global) -> Result<Reply, AllocError> {
     let mut terms = Vec::new(alloc);
     for _ in 0..65_536 {
         terms.push(Term::Int(1))?;
     }
-    let reply = Reply::Found(SharedTerms::from_terms(Terms::from_vec(terms)));
-    let mut within = Vec::new(alloc);
-    assert!(rt; append_reply_within(Some(7), &reply, 200_000, &mut within)?);
+    Ok(Reply::Found(SharedTerms::from_terms(Terms::from_vec(terms))))
+}
+
+/// Returns whether a bound of 200,000 lets the reply's frame through, and one of 65,536 nothing.
+fn is_long(alloc: Global, reply: &Reply) -> Result<bool, EncodeFault> {
     let mut measured = Vec::new(alloc);
-    append_reply(Some(7), &reply, &mut measured)?;
-    assert!(rt; within.as_slice() == measured.as_slice());
-    assert!(rt; !append_reply_within(Some(7), &reply, 65_536, &mut within)?);
-    assert!(rt; within.as_slice() == measured.as_slice());
-    within.clear();
-    assert!(rt; append_reply_within(None, &Reply::Done, 0, &mut within)?);
-    assert!(rt; within.as_slice() == b"\0\0\0\x0e\x83h\x02w\x05replyw\x02ok".as_slice());
+    append_reply(Some(7), reply, &mut measured)?;
+    let mut within = Vec::new(alloc);
+    let whole = append_reply_within(Some(7), reply, 200_000, &mut within)?;
+    let longer = append_reply_within(Some(7), reply, 65_536, &mut within)?;
+    Ok(whole && !longer && within.as_slice() == measured.as_slice())
+}
+
+#[test]
+fn long_lists_are_added(rt: HostRuntime) -> Result<(), Fail> {
+    let reply = long_reply(rt.alloc())?;
+    assert!(rt; is_long(rt.alloc(), &reply) == Ok(true));
     Ok(())
+}
+
+/// A reply that holds no list has no bound.
+fn is_short(alloc: Global) -> Result<bool, EncodeFault> {
+    let mut out = Vec::new(alloc);
+    let whole = append_reply_within(None, &Reply::Done, 0, &mut out)?;
+    let frame = b"\0\0\0\x0e\x83h\x02w\x05replyw\x02ok";
+    Ok(whole && out.as_slice() == frame.as_slice())
+}
+
+#[test]
+fn short_replies_are_added(rt: HostRuntime) {
+    assert!(rt; is_short(rt.alloc()) == Ok(true));
 }

@@ -2,9 +2,8 @@
 //! of tab_map, whose maps share an entry.
 
 use std::alloc::{AllocError, Global};
-use std::test::Fail;
 use tab_lists::{AtKeys, Condition, Scope, SharedTerms, Snapshot};
-use tab_map::{Map, Set};
+use tab_map::{Entry, Map, Set};
 use tab_records::Records;
 use tab_term::{Atom, Term, Terms};
 
@@ -165,28 +164,62 @@ fn condition(alloc: Global, wanted: &Wanted) -> Result<Condition, AllocError> {
     }
 }
 
+fn keys_of(alloc: Global, all: &[i128]) -> Result<Set<Term>, AllocError> {
+    let mut keys = Set::new();
+    for key in all {
+        keys.insert(alloc, Term::Int(*key))?;
+    }
+    Ok(keys)
+}
+
+/// The entry of a key, if the map has it.
+fn entry_of(
+    map: &Map<Term, Records>,
+    key: i128,
+) -> Result<Option<Entry<Term, Records>>, AllocError> {
+    match map.get_entry(&Term::Int(key)) {
+        Some(entry) => Ok(Some(entry.try_clone()?)),
+        None => Ok(None),
+    }
+}
+
+fn at_keys(alloc: Global, map: &Map<Term, Records>, all: &[i128]) -> Result<Scope, AllocError> {
+    let keys = keys_of(alloc, all)?;
+    let snapshot = snapshot(alloc, map)?;
+    Ok(Scope::Keys(AtKeys { keys, snapshot }))
+}
+
+/// The keys of a query; None if the map doesn't have the one key.
+fn scope(alloc: Global, map: &Map<Term, Records>, at: &At) -> Result<Option<Scope>, AllocError> {
+    match at {
+        At::Key(key) => Ok(entry_of(map, *key)?.map(Scope::Key)),
+        At::All => Ok(Some(Scope::All(snapshot(alloc, map)?))),
+        At::Keys(all) => Ok(Some(at_keys(alloc, map, all)?)),
+    }
+}
+
+fn own(alloc: Global, all: &[i128]) -> Result<SharedTerms, AllocError> {
+    Ok(SharedTerms::from_terms(numbers(alloc, all)?))
+}
+
 fn found(
     alloc: Global,
     map: &Map<Term, Records>,
     at: &At,
     wanted: &Wanted,
 ) -> Result<SharedTerms, AllocError> {
-    let scope = match at {
-        At::Key(key) => match map.get_entry(&Term::Int(*key)) {
-            Some(entry) => Scope::Key(entry.try_clone()?),
-            None => return Ok(SharedTerms::from_terms(numbers(alloc, &[])?)),
-        },
-        At::All => Scope::All(snapshot(alloc, map)?),
-        At::Keys(all) => {
-            let mut keys = Set::new();
-            for key in *all {
-                keys.insert(alloc, Term::Int(*key))?;
-            }
-            let snapshot = snapshot(alloc, map)?;
-            Scope::Keys(AtKeys { keys, snapshot })
-        }
-    };
-    SharedTerms::from_query(alloc, scope, condition(alloc, wanted)?)
+    let condition = condition(alloc, wanted)?;
+    match scope(alloc, map, at)? {
+        Some(scope) => SharedTerms::from_query(alloc, scope, condition),
+        None => own(alloc, &[]),
+    }
+}
+
+fn entry(alloc: Global, map: &Map<Term, Records>, key: i128) -> Result<SharedTerms, AllocError> {
+    match entry_of(map, key)? {
+        Some(entry) => Ok(SharedTerms::from_entry(entry)),
+        None => own(alloc, &[]),
+    }
 }
 
 fn list_of(
@@ -195,11 +228,8 @@ fn list_of(
     form: &Form,
 ) -> Result<SharedTerms, AllocError> {
     match form {
-        Form::Own(all) => Ok(SharedTerms::from_terms(numbers(alloc, all)?)),
-        Form::Entry(key) => match map.get_entry(&Term::Int(*key)) {
-            Some(entry) => Ok(SharedTerms::from_entry(entry.try_clone()?)),
-            None => Ok(SharedTerms::from_terms(numbers(alloc, &[])?)),
-        },
+        Form::Own(all) => own(alloc, all),
+        Form::Entry(key) => entry(alloc, map, *key),
         Form::Keys => Ok(SharedTerms::from_keys(snapshot(alloc, map)?)),
         Form::Records => Ok(SharedTerms::from_records(map.share()?)),
         Form::Found(at, wanted) => found(alloc, map, at, wanted),
@@ -225,6 +255,33 @@ fn copy_gives(alloc: Global, list: &SharedTerms, wanted: &[i128]) -> Result<bool
     Ok(gives(&same, wanted) && gives(&SharedTerms::from_terms(copy), wanted))
 }
 
+/// Returns whether the list gives these, by itself and as its copies.
+fn is_made(alloc: Global, list: SharedTerms, wanted: &[i128]) -> Result<bool, AllocError> {
+    Ok(gives(&list, wanted) && copy_gives(alloc, &list, wanted)?)
+}
+
+/// Changes the map. Returns whether the list that was made of it before gives the same.
+fn is_kept(
+    alloc: Global,
+    map: &mut Map<Term, Records>,
+    list: &SharedTerms,
+    before: &[i128],
+) -> Result<bool, AllocError> {
+    change(alloc, map)?;
+    Ok(gives(list, before))
+}
+
+/// Returns whether a list of the map gives these.
+fn is_new(
+    alloc: Global,
+    map: &Map<Term, Records>,
+    form: &Form,
+    after: &[i128],
+) -> Result<bool, AllocError> {
+    let list = list_of(alloc, map, form)?;
+    copy_gives(alloc, &list, after)
+}
+
 /// Returns whether a list gives `before`: before the map changes, after that, and without the map. The last two are
 /// those of the second of two owners, when the first is gone. A list that is made after the change gives `after`.
 fn is_right(
@@ -235,14 +292,11 @@ fn is_right(
 ) -> Result<bool, AllocError> {
     let mut map = map_before(alloc)?;
     let (list, other) = list_of(alloc, &map, form)?.pair(alloc)?;
-    let is_made = copy_gives(alloc, &list, before)?;
-    let is_given = gives(&list, before);
-    drop(list);
-    change(alloc, &mut map)?;
-    let is_kept = gives(&other, before);
-    let is_new = copy_gives(alloc, &list_of(alloc, &map, form)?, after)?;
+    let is_made = is_made(alloc, list, before) == Ok(true);
+    let is_kept = is_kept(alloc, &mut map, &other, before) == Ok(true);
+    let is_new = is_new(alloc, &map, form, after) == Ok(true);
     drop(map);
-    Ok(is_made && is_given && is_kept && is_new && gives(&other, before))
+    Ok(is_made && is_kept && is_new && gives(&other, before))
 }
 
 #[test]
@@ -271,20 +325,46 @@ fn has(map: &Map<Term, Records>, wanted: &[i128]) -> Result<bool, AllocError> {
     Ok(gives(&SharedTerms::from_records(map.share()?), wanted))
 }
 
-/// Either map keeps its records when the other changes, and when it is gone.
-#[test]
-fn an_entry_stands_in_two_maps(rt: HostRuntime) -> Result<(), Fail> {
-    let alloc = rt.alloc();
-    let mut map = map_before(alloc)?;
+/// A map of keys 1 and 5, and of the entries of another map.
+fn map_beside(alloc: Global, map: &Map<Term, Records>) -> Result<Map<Term, Records>, AllocError> {
     let mut other = Map::new();
     insert_all(alloc, &mut other, &[(1, &[15]), (5, &[51])])?;
-    lend(alloc, &map, &mut other)?;
-    assert!(rt; has(&other, &[11, 12, 31, 51])?);
-    insert_all(alloc, &mut other, &[(3, &[39])])?;
-    assert!(rt; has(&map, &[11, 12, 31])?);
+    lend(alloc, map, &mut other)?;
+    Ok(other)
+}
+
+/// Changes a map. Returns whether another that shares its entries is the same before and after it.
+fn stays(
+    alloc: Global,
+    map: &Map<Term, Records>,
+    other: &mut Map<Term, Records>,
+) -> Result<bool, AllocError> {
+    let is_whole = has(other, &[11, 12, 31, 51])?;
+    insert_all(alloc, other, &[(3, &[39])])?;
+    Ok(is_whole && has(map, &[11, 12, 31])?)
+}
+
+/// The same for the other one, after all of it when the first map is gone.
+fn others_stay(
+    alloc: Global,
+    mut map: Map<Term, Records>,
+    other: &Map<Term, Records>,
+) -> Result<bool, AllocError> {
     change(alloc, &mut map)?;
-    assert!(rt; has(&map, &[19, 21, 22])? && has(&other, &[11, 12, 39, 51])?);
+    let right = has(&map, &[19, 21, 22])? && has(other, &[11, 12, 39, 51])?;
     drop(map);
-    assert!(rt; has(&other, &[11, 12, 39, 51])?);
-    Ok(())
+    Ok(right && has(other, &[11, 12, 39, 51])?)
+}
+
+fn both_stay(alloc: Global) -> Result<bool, AllocError> {
+    let map = map_before(alloc)?;
+    let mut other = map_beside(alloc, &map)?;
+    let right = stays(alloc, &map, &mut other) == Ok(true);
+    Ok(right && others_stay(alloc, map, &other)?)
+}
+
+/// Either map keeps its records when the other changes, and when it is gone.
+#[test]
+fn an_entry_stands_in_two_maps(rt: HostRuntime) {
+    assert!(rt; both_stay(rt.alloc()) == Ok(true));
 }

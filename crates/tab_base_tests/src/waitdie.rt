@@ -1,7 +1,6 @@
 //! Tests of the public calls of `tab_locks` and `tab_waitdie`: steps and calls in turn, with answers from outside.
 
 use std::alloc::{AllocError, Global};
-use std::test::Fail;
 use tab_locks::{Conflict, LockTable};
 use tab_model::{Lock, Mode, What};
 use tab_term::{Atom, Term};
@@ -19,7 +18,9 @@ enum Step {
 }
 
 /// An age asks for a lock: whether it has it, and how it conflicts with the others' locks. Then a step of that age.
-static STEPS: [(u64, Asked, bool, Conflict, Step); 13] = [
+type Row = (u64, Asked, bool, Conflict, Step);
+
+static STEPS: [Row; 13] = [
     (
         3,
         ("t", Some(5), Mode::Read),
@@ -153,17 +154,33 @@ fn make(locks: &mut LockTable, age: u64, lock: Lock, step: Step) -> Result<(), A
     Ok(())
 }
 
-#[test]
-fn locks_are_held_and_gone(rt: HostRuntime) -> Result<(), Fail> {
-    let alloc = rt.alloc();
-    let mut locks = LockTable::new(alloc);
-    for (number, (age, asked, covered, conflict, step)) in STEPS.iter().enumerate() {
-        let found = standing(&locks, *age, &lock_of(alloc, asked)?);
-        assert!(rt; found == (*covered, *conflict), "step {number}");
-        make(&mut locks, *age, lock_of(alloc, asked)?, *step)?;
+/// Returns whether the locks are as this step says, and makes it.
+fn is_right(
+    alloc: Global,
+    locks: &mut LockTable,
+    (age, asked, covered, conflict, step): &Row,
+) -> Result<bool, AllocError> {
+    let lock = lock_of(alloc, asked)?;
+    let found = standing(locks, *age, &lock);
+    make(locks, *age, lock, *step)?;
+    Ok(found == (*covered, *conflict))
+}
+
+/// The first step that differs; the number of steps if the table u is locked after them.
+fn wrong_step(alloc: Global, locks: &mut LockTable) -> Result<Option<usize>, AllocError> {
+    for (number, row) in STEPS.iter().enumerate() {
+        if !is_right(alloc, locks, row)? {
+            return Ok(Some(number));
+        }
     }
-    assert!(rt; !locks.is_locked(&Atom::from_short_text(alloc, "u")?));
-    Ok(())
+    let is_locked = locks.is_locked(&name(alloc, "u")?);
+    Ok(is_locked.then_some(STEPS.len()))
+}
+
+#[test]
+fn locks_are_held_and_gone(rt: HostRuntime) {
+    let mut locks = LockTable::new(rt.alloc());
+    assert_eq!(rt; wrong_step(rt.alloc(), &mut locks), Ok(None));
 }
 
 enum Call {
@@ -213,12 +230,18 @@ fn goes(alloc: Global, ages: &mut Ages, call: &Call) -> Result<bool, AllocError>
     }
 }
 
-#[test]
-fn calls_are_answered(rt: HostRuntime) -> Result<(), Fail> {
-    let alloc = rt.alloc();
-    let mut ages = Ages::new(alloc);
+/// The first call whose answer differs.
+fn wrong_call(alloc: Global, ages: &mut Ages) -> Result<Option<usize>, AllocError> {
     for (number, call) in CALLS.iter().enumerate() {
-        assert!(rt; goes(alloc, &mut ages, call)?, "call {number}");
+        if !goes(alloc, ages, call)? {
+            return Ok(Some(number));
+        }
     }
-    Ok(())
+    Ok(None)
+}
+
+#[test]
+fn calls_are_answered(rt: HostRuntime) {
+    let mut ages = Ages::new(rt.alloc());
+    assert_eq!(rt; wrong_call(rt.alloc(), &mut ages), Ok(None));
 }

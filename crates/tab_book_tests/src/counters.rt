@@ -2,6 +2,7 @@
 
 ghost use Rattle.std.specs.Prelude.{◌≡◌, ◌≤◌};
 
+use crate::clients::{Caller, Client, join_all};
 use crate::commands::{
     LIMITS, create, number_of, read_for_write, record, value_in, value_logged, write,
 };
@@ -14,7 +15,7 @@ use std::thread;
 use std::thread::Threads;
 use tab_book::{Book, Seat, Shared};
 use tab_journal::Journal;
-use tab_model::{Change, Command, Entry, Limits, Reply, SharedReply};
+use tab_model::{Change, Command, Entry, Limits, Reply};
 use tab_post::{Channel, Host, Inbox, Naming, Opened};
 use tab_rows::Update;
 use tab_tables::{Catalog, Lender};
@@ -31,28 +32,9 @@ struct Raised {
     value: i128,
 }
 
-/// A step, and if it has to wait the retries after it.
-fn answered<H: Host>(
-    host: &H,
-    shared: &Shared<H>,
-    seat: &Seat,
-    command: Command,
-) -> Result<SharedReply, AllocError> {
-    let told = shared.step(host, seat, command)?;
-    match told.reply() {
-        Reply::Waiting => shared.retry(host, seat),
-        _ => Ok(told),
-    }
-}
-
 /// The value that is read for a write; None if the transaction is restarted.
-fn value_read<H: Host>(
-    host: &H,
-    alloc: Global,
-    shared: &Shared<H>,
-    seat: &Seat,
-) -> Result<Option<i128>, AllocError> {
-    let found = answered(host, shared, seat, read_for_write(alloc)?)?;
+fn value_read<C: Caller>(alloc: Global, client: &C) -> Result<Option<i128>, AllocError> {
+    let found = client.call(read_for_write(alloc)?)?;
     Ok(value_in(found.reply()))
 }
 
@@ -64,21 +46,12 @@ fn is_done(reply: &Reply) -> bool {
 }
 
 /// One attempt to raise the record. Returns the value that was read; None if it has to be repeated.
-fn attempt<H: Host>(
-    host: &H,
-    alloc: Global,
-    shared: &Shared<H>,
-    seat: &Seat,
-) -> Result<Option<i128>, AllocError> {
-    let Some(value) = value_read(host, alloc, shared, seat)? else {
+fn attempt<C: Caller>(alloc: Global, client: &C) -> Result<Option<i128>, AllocError> {
+    let Some(value) = value_read(alloc, client)? else {
         return Ok(None);
     };
-    let told = answered(host, shared, seat, write(alloc, value.saturating_add(1))?)?;
-    Ok(if is_done(told.reply()) {
-        Some(value)
-    } else {
-        None
-    })
+    let told = client.call(write(alloc, value.saturating_add(1))?)?;
+    Ok(is_done(told.reply()).then_some(value))
 }
 
 /// The age that a begin gave, 0 if it gave none.
@@ -90,17 +63,11 @@ fn age_of(reply: &Reply) -> u64 {
 }
 
 /// A transaction is begun once, and made again until it commits.
-fn raise<H: Host>(
-    host: &H,
-    alloc: Global,
-    shared: &Shared<H>,
-    seat: &Seat,
-) -> Result<Raised, AllocError> {
-    let age = age_of(shared.step(host, seat, Command::Begin)?.reply());
+fn raise<H: Host, C: Caller>(host: &H, alloc: Global, client: &C) -> Result<Raised, AllocError> {
+    let age = age_of(client.call(Command::Begin)?.reply());
     for _ in host.forever() {
-        if let Some(value) = attempt(host, alloc, shared, seat)? {
-            let told = shared.step(host, seat, Command::Commit)?;
-            let commit = number_of(told.reply());
+        if let Some(value) = attempt(alloc, client)? {
+            let commit = number_of(client.call(Command::Commit)?.reply());
             return Ok(Raised { age, commit, value });
         }
     }
@@ -156,9 +123,11 @@ fn raise_all<H: Host>(
     seat: &Seat,
     entered: &AtomicU64,
 ) {
+    let seat = *seat;
+    let client = Client { host, shared, seat };
     for _ in 0..EACH {
-        if let Ok(raised) = raise(host, alloc, shared, seat) {
-            if is_entered(host, shared, seat, raised) {
+        if let Ok(raised) = raise(host, alloc, &client) {
+            if is_entered(host, shared, &seat, raised) {
                 entered.fetch_add(1, Ordering::SeqCst);
             }
         }
@@ -229,52 +198,61 @@ fn count_in<H: Host + Threads + Send + Sync>(
 ) -> Result<Counts, Fail> {
     let mut sessions = Vec::new(alloc);
     let mut inboxes = Vec::new(alloc);
-    join_all(host, shared, &mut sessions, &mut inboxes)?;
-    let first = *sessions.first().ok_or("no seat")?;
-    begin_at_0(host, alloc, shared, &first)?;
+    join_and_count(host, alloc, shared, &mut sessions, &mut inboxes)
+}
+
+fn join_and_count<H: Host + Threads + Send + Sync>(
+    host: &H,
+    alloc: Global,
+    shared: &Shared<H>,
+    sessions: &mut Vec<Seat>,
+    inboxes: &mut Vec<Inbox<H>>,
+) -> Result<Counts, Fail> {
+    join_all(host, shared, THREADS, sessions, inboxes)?;
+    let seat = *sessions.first().ok_or("no seat")?;
+    let first = Client { host, shared, seat };
+    begin_at_0(alloc, &first)?;
     let entered = AtomicU64::new(0);
-    run_threads(host, alloc, shared, &sessions, &entered);
-    shared.call(host, &first, Command::Begin)?;
-    let value = value_in(shared.call(host, &first, read_for_write(alloc)?)?.reply());
+    run_threads(host, alloc, shared, sessions, &entered);
+    let value = last_value(alloc, &first)?;
     let audit = shared.audit(host)?;
+    let counts = counts_in(host, alloc, shared)?;
+    Ok(Counts {
+        value,
+        audit,
+        entered: entered.load(Ordering::SeqCst),
+        ..counts
+    })
+}
+
+/// The value that the first session reads in the end.
+fn last_value<C: Caller>(alloc: Global, client: &C) -> Result<Option<i128>, AllocError> {
+    client.call(Command::Begin)?;
+    value_read(alloc, client)
+}
+
+/// What the journal has, and an audit of it against other tables.
+fn counts_in<H: Host>(host: &H, alloc: Global, shared: &Shared<H>) -> Result<Counts, AllocError> {
     let book = shared.book.lock(host);
     let journal = book.journal();
+    let other_audit = is_history_of_199(alloc, journal, book.tables())?;
     Ok(Counts {
         entries: journal.len(),
         base: journal.base().commits(),
         last: last_number(journal),
-        value,
-        audit,
-        other_audit: is_history_of_199(alloc, journal, book.tables())?,
-        entered: entered.load(Ordering::SeqCst),
+        value: None,
+        audit: false,
+        other_audit,
+        entered: 0,
     })
 }
 
-fn join_all<H: Host>(
-    host: &H,
-    shared: &Shared<H>,
-    sessions: &mut Vec<Seat>,
-    inboxes: &mut Vec<Inbox<H>>,
-) -> Result<(), Fail> {
-    for _ in 0..THREADS {
-        let (seat, inbox) = shared.join(host).map_err(|_| "join")?;
-        sessions.push(seat)?;
-        inboxes.push(inbox)?;
-    }
-    Ok(())
-}
-
 /// The first commit makes the record, with 0.
-fn begin_at_0<H: Host>(
-    host: &H,
-    alloc: Global,
-    shared: &Shared<H>,
-    seat: &Seat,
-) -> Result<(), AllocError> {
-    shared.call(host, seat, create(alloc)?)?;
-    shared.call(host, seat, Command::Begin)?;
-    shared.call(host, seat, write(alloc, 0)?)?;
-    shared.call(host, seat, Command::Commit)?;
+fn begin_at_0<C: Caller>(alloc: Global, client: &C) -> Result<(), AllocError> {
+    client.call(create(alloc)?)?;
+    client.call(Command::Begin)?;
+    client.call(write(alloc, 0)?)?;
+    client.call(Command::Commit)?;
     Ok(())
 }
 

@@ -78,16 +78,20 @@ fn fold<H: Host>(host: H, alloc: Global, opened: Opened<Channel>) -> Result<Opti
         ..LIMITS
     };
     let shared = Shared::new(Book::new(host, alloc, opened, limits)?, 2);
-    let (seat, _inbox) = shared.join(&host).map_err(|_| "join")?;
-    let mut book = shared.hold(&host);
-    Ok(fold_in(&mut book, alloc, seat.session())?)
+    fold_in(&host, alloc, &shared)
 }
 
-fn fold_in<H: Host>(
+fn fold_in<H: Host>(host: &H, alloc: Global, shared: &Shared<H>) -> Result<Option<u64>, Fail> {
+    let (seat, _inbox) = shared.join(host).map_err(|_| "join")?;
+    let mut book = shared.hold(host);
+    commit_differs(&mut book, alloc, seat.session())
+}
+
+fn commit_differs<H: Host>(
     book: &mut Book<H>,
     alloc: Global,
     session: u32,
-) -> Result<Option<u64>, AllocError> {
+) -> Result<Option<u64>, Fail> {
     book.step(session, Step::Do(create(alloc)?))?;
     for number in 1..=100u64 {
         let numbered = commit(book, alloc, session)?;

@@ -151,17 +151,29 @@ fn make_calls<H: Host>(
     requires { opened ≡ H.book }
 {
     let (register, mut prefix) = opened.named::<H>();
-    let (mut post, mut inbox) = NewMailbox::new(alloc, 2)?.enter(&register, &mut prefix, rt);
-    let (mut other, mut others) = NewMailbox::new(alloc, 2)?.enter(&register, &mut prefix, rt);
+    let (first, second) = (NewMailbox::new(alloc, 2)?, NewMailbox::new(alloc, 2)?);
+    let (mut post, mut inbox) = first.enter(&register, &mut prefix, rt);
+    let (mut other, mut others) = second.enter(&register, &mut prefix, rt);
     let differs = call_differs(alloc, &mut post, &mut other, &mut inbox, &mut others);
-    drop(inbox);
-    drop(other);
-    let is_gone = is_handed_back(&mut post, alloc, 6, false) && received(&mut others) == NONE;
-    Ok(if differs.is_none() && !is_gone {
+    let is_refused = is_refused(alloc, post, inbox);
+    let is_empty = is_empty(other, others);
+    Ok(if differs.is_none() && !(is_refused && is_empty) {
         Some(CALLS.len())
     } else {
         differs
     })
+}
+
+/// Returns whether a post whose inbox is gone gives an item back.
+fn is_refused<H: Host>(alloc: Global, mut post: ChannelPost<H>, inbox: Inbox<H>) -> bool {
+    drop(inbox);
+    is_handed_back(&mut post, alloc, 6, false)
+}
+
+/// Returns whether an inbox whose post is gone has nothing.
+fn is_empty<H: Host>(post: ChannelPost<H>, mut inbox: Inbox<H>) -> bool {
+    drop(post);
+    received(&mut inbox) == NONE
 }
 
 fn call_differs<H: Host>(

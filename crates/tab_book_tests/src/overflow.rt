@@ -2,43 +2,15 @@
 
 ghost use Rattle.std.specs.Prelude.{◌≡◌};
 
+use crate::clients::{ALL_TAKEN, BEGAN, Caller, Client, LEFT, Taking, Watcher};
 use crate::commands::{LIMITS, create, number_of, subscribe, write};
 use std::alloc::{AllocError, Global};
 use std::marker::{Brand, PhantomData};
 use std::sync::Wait;
 use std::test::*;
-use tab_book::{Book, Drained, Seat, Shared};
-use tab_lists::EventTerms;
-use tab_model::{Command, Item, Reply};
+use tab_book::{Book, Shared};
+use tab_model::{Command, Reply};
 use tab_post::{Channel, Host, Inbox, Naming, Opened};
-
-/// An inbox's next item as a number: a batch of one event is 100 and its commit, an overflow 200 and its commit.
-fn shown_as(drained: &Drained) -> u64 {
-    match drained {
-        Drained::Going(item) => number_in(item.item()),
-        Drained::AllTaken => ALL_TAKEN,
-        Drained::Overflow(number) => number.saturating_add(200),
-        Drained::Left => LEFT,
-    }
-}
-
-fn number_in(item: &Item) -> u64 {
-    match item {
-        Item::Began(..) => BEGAN,
-        Item::Batch(commit, events) if is_one(events) => commit.saturating_add(100),
-        _ => 0,
-    }
-}
-
-fn is_one(events: &EventTerms) -> bool {
-    events.as_slice().len() == 1
-}
-
-pub const ALL_TAKEN: u64 = 1;
-
-pub const BEGAN: u64 = 2;
-
-const LEFT: u64 = 3;
 
 /// The numbers of three commits, which begin after a begin marker that is taken, and the reader's items then, in turn.
 static ROUNDS: [([u64; 3], [u64; 4]); 2] = [
@@ -60,65 +32,69 @@ fn is_untold(reply: &Reply) -> bool {
     }
 }
 
-fn commit<H: Host>(
-    host: &H,
-    alloc: Global,
-    shared: &Shared<H>,
-    seat: &Seat,
-) -> Result<u64, AllocError> {
-    shared.call(host, seat, Command::Begin)?;
-    shared.call(host, seat, write(alloc, 1)?)?;
-    let told = shared.call(host, seat, Command::Commit)?;
+fn commit<C: Caller>(alloc: Global, client: &C) -> Result<u64, AllocError> {
+    client.call(Command::Begin)?;
+    client.call(write(alloc, 1)?)?;
+    let told = client.call(Command::Commit)?;
     Ok(number_of(told.reply()))
 }
 
-/// The reader's next item, as a number.
-pub fn shown<H: Host>(host: &H, shared: &Shared<H>, seat: &Seat, inbox: &mut Inbox<H>) -> u64 {
-    shown_as(&shared.drained(host, seat, inbox))
-}
-
 /// Returns whether the reader subscribes, and is shown its begin marker.
-fn watches<H: Host>(
-    host: &H,
+fn watches<C: Caller, W: Watcher>(
     alloc: Global,
-    shared: &Shared<H>,
-    seat: &Seat,
-    inbox: &mut Inbox<H>,
+    client: &C,
+    watcher: &mut W,
 ) -> Result<bool, AllocError> {
-    let told = shared.call(host, seat, subscribe(alloc)?)?;
-    Ok(is_here(told.reply()) && shown(host, shared, seat, inbox) == BEGAN)
+    let told = client.call(subscribe(alloc)?)?;
+    Ok(is_here(told.reply()) && watcher.shown() == BEGAN)
 }
 
 /// Returns whether the commits have these numbers.
-fn commits<H: Host>(
-    host: &H,
-    alloc: Global,
-    shared: &Shared<H>,
-    seat: &Seat,
-    numbers: &[u64],
-) -> Result<bool, AllocError> {
+fn commits<C: Caller>(alloc: Global, client: &C, numbers: &[u64]) -> Result<bool, AllocError> {
     let mut right = true;
     for number in numbers {
-        right = commit(host, alloc, shared, seat)? == *number && right;
+        right &= commit(alloc, client)? == *number;
     }
     Ok(right)
 }
 
+/// Returns whether the reader is shown all of these.
+fn are_shown<W: Watcher>(watcher: &mut W, items: &[u64]) -> bool {
+    let mut right = true;
+    for wanted in items {
+        right &= watcher.shown() == *wanted;
+    }
+    right
+}
+
 /// Returns whether the reader, which overflowed, is refused a subscription until it was shown all of these.
-fn is_told<H: Host>(
-    host: &H,
+fn is_told<C: Caller, W: Watcher>(
     alloc: Global,
-    shared: &Shared<H>,
-    seat: &Seat,
-    inbox: &mut Inbox<H>,
+    client: &C,
+    watcher: &mut W,
     items: &[u64],
 ) -> Result<bool, AllocError> {
-    let refused = shared.call(host, seat, subscribe(alloc)?)?;
-    let mut right = is_untold(refused.reply());
-    for wanted in items {
-        right = shown(host, shared, seat, inbox) == *wanted && right;
+    let refused = client.call(subscribe(alloc)?)?;
+    Ok(is_untold(refused.reply()) && are_shown(watcher, items))
+}
+
+/// Returns whether both rounds are right. The watcher of another session's inbox is shown nothing.
+fn rounds_are_right<C: Caller, W: Watcher>(
+    alloc: Global,
+    writer: &C,
+    reader: &C,
+    watcher: &mut W,
+    other: &mut W,
+) -> Result<bool, AllocError> {
+    writer.call(create(alloc)?)?;
+    let mut right = true;
+    for (numbers, items) in &ROUNDS {
+        right &= watches(alloc, reader, watcher)?;
+        right &= commits(alloc, writer, numbers)?;
+        right &= other.shown() == ALL_TAKEN;
+        right &= is_told(alloc, reader, watcher, items)?;
     }
-    Ok(right)
+    Ok(right && watches(alloc, reader, watcher)?)
 }
 
 /// Three commits while nobody takes from a mailbox of two items, twice.
@@ -130,20 +106,35 @@ fn overflow<H: Host>(host: H, alloc: Global, opened: Opened<Channel>) -> Result<
 }
 
 fn overflow_in<H: Host>(host: &H, alloc: Global, shared: &Shared<H>) -> Result<bool, Fail> {
-    let (writer, mut others) = shared.join(host).map_err(|_| "join")?;
-    let (reader, mut inbox) = shared.join(host).map_err(|_| "join")?;
-    shared.call(host, &writer, create(alloc)?)?;
-    let mut right = true;
-    for (numbers, items) in &ROUNDS {
-        right = watches(host, alloc, shared, &reader, &mut inbox)? && right;
-        right = commits(host, alloc, shared, &writer, numbers)? && right;
-        // An inbox of another session takes nothing.
-        right = shown(host, shared, &reader, &mut others) == ALL_TAKEN && right;
-        right = is_told(host, alloc, shared, &reader, &mut inbox, items)? && right;
-    }
-    right = watches(host, alloc, shared, &reader, &mut inbox)? && right;
-    shared.leave(host, &reader);
-    Ok(right && shown(host, shared, &reader, &mut inbox) == LEFT)
+    let (seat, inbox) = shared.join(host).map_err(|_| "join")?;
+    let writer = Client { host, shared, seat };
+    overflow_of(alloc, &writer, inbox)
+}
+
+/// The reader, which leaves in the end, and the writer's inbox.
+fn overflow_of<H: Host>(
+    alloc: Global,
+    writer: &Client<'_, H>,
+    others: Inbox<H>,
+) -> Result<bool, Fail> {
+    let (host, shared) = (writer.host, writer.shared);
+    let (seat, inbox) = shared.join(host).map_err(|_| "join")?;
+    let reader = Client { host, shared, seat };
+    let mut other = Taking {
+        host,
+        shared,
+        seat,
+        inbox: others,
+    };
+    let mut watcher = Taking {
+        host,
+        shared,
+        seat,
+        inbox,
+    };
+    let right = rounds_are_right(alloc, writer, &reader, &mut watcher, &mut other);
+    shared.leave(host, &seat);
+    Ok(right == Ok(true) && watcher.shown() == LEFT)
 }
 
 fn overflow_named<J: Naming, R: Wait + Copy>(

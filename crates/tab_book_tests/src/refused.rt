@@ -4,8 +4,8 @@
 
 ghost use Rattle.std.specs.Prelude.{◌≡◌};
 
+use crate::clients::{ALL_TAKEN, BEGAN, Caller, Client, Taking, Watcher};
 use crate::commands::{LIMITS, create, subscribe, write};
-use crate::overflow::{ALL_TAKEN, BEGAN, shown};
 use std::alloc::{AllocError, Global};
 use std::marker::{Brand, PhantomData};
 use std::sync::Wait;
@@ -81,22 +81,18 @@ fn join<H: Host>(host: &H, shared: &Shared<H>) -> Result<(Seat, Inbox<H>), JoinF
 }
 
 /// The reply of the step, which is repeated if it finds no memory: only one allocation is refused.
-fn told<H: Host>(
-    host: &H,
-    alloc: Global,
-    shared: &Shared<H>,
-    seat: &Seat,
-    ask: Ask,
-) -> Option<u64> {
+fn told<C: Caller>(alloc: Global, client: &C, ask: Ask) -> Option<u64> {
     for _ in 0..2 {
-        let Ok(command) = command(alloc, ask) else {
-            continue;
-        };
-        if let Ok(told) = shared.step(host, seat, command) {
-            return Some(number(told.reply()));
+        if let Ok(number) = told_once(alloc, client, ask) {
+            return Some(number);
         }
     }
     None
+}
+
+fn told_once<C: Caller>(alloc: Global, client: &C, ask: Ask) -> Result<u64, AllocError> {
+    let told = client.call(command(alloc, ask)?)?;
+    Ok(number(told.reply()))
 }
 
 /// Returns whether the journal has its two last entries after a base of the commits before, and is a history of the
@@ -125,46 +121,59 @@ fn differs<H: Host>(host: H, alloc: Global, opened: Opened<Channel>) -> Result<O
 }
 
 fn differs_in<H: Host>(host: &H, alloc: Global, shared: &Shared<H>) -> Result<Option<usize>, Fail> {
-    let (writer, _inbox) = join(host, shared).map_err(|_| "no writer")?;
-    let (watcher, mut inbox) = join(host, shared).map_err(|_| "no watcher")?;
-    let differs = match step_differs(host, alloc, shared, &writer, &watcher) {
-        None => shown_differs(host, shared, &watcher, &mut inbox),
-        differs => differs,
-    };
-    if differs.is_none() && !is_history(host, shared)? {
-        return Ok(Some(STEPS.len() + SHOWN.len()));
-    }
-    Ok(differs)
+    let (seat, _inbox) = join(host, shared).map_err(|_| "no writer")?;
+    let writer = Client { host, shared, seat };
+    watched_differs(alloc, &writer)
 }
 
-fn step_differs<H: Host>(
-    host: &H,
+fn watched_differs<H: Host>(alloc: Global, writer: &Client<'_, H>) -> Result<Option<usize>, Fail> {
+    let (host, shared) = (writer.host, writer.shared);
+    let (seat, inbox) = join(host, shared).map_err(|_| "no watcher")?;
+    let client = Client { host, shared, seat };
+    let mut watcher = Taking {
+        host,
+        shared,
+        seat,
+        inbox,
+    };
+    let differs = any_differs(alloc, writer, &client, &mut watcher);
+    let is_history = is_history(host, shared) == Ok(true);
+    Ok(if differs.is_none() && !is_history {
+        Some(STEPS.len() + SHOWN.len())
+    } else {
+        differs
+    })
+}
+
+fn any_differs<C: Caller, W: Watcher>(
     alloc: Global,
-    shared: &Shared<H>,
-    writer: &Seat,
-    watcher: &Seat,
+    writer: &C,
+    watching: &C,
+    watcher: &mut W,
 ) -> Option<usize> {
+    match step_differs(alloc, writer, watching) {
+        None => shown_differs(watcher),
+        differs => differs,
+    }
+}
+
+fn step_differs<C: Caller>(alloc: Global, writer: &C, watching: &C) -> Option<usize> {
     for (place, (ask, wanted)) in STEPS.iter().enumerate() {
-        let seat = if matches!(ask, Ask::Watch) {
-            watcher
+        let client = if matches!(ask, Ask::Watch) {
+            watching
         } else {
             writer
         };
-        if told(host, alloc, shared, seat, *ask) != Some(*wanted) {
+        if told(alloc, client, *ask) != Some(*wanted) {
             return Some(place);
         }
     }
     None
 }
 
-fn shown_differs<H: Host>(
-    host: &H,
-    shared: &Shared<H>,
-    watcher: &Seat,
-    inbox: &mut Inbox<H>,
-) -> Option<usize> {
+fn shown_differs<W: Watcher>(watcher: &mut W) -> Option<usize> {
     for (place, wanted) in SHOWN.iter().enumerate() {
-        if shown(host, shared, watcher, inbox) != *wanted {
+        if watcher.shown() != *wanted {
             return Some(STEPS.len() + place);
         }
     }

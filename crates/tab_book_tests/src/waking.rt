@@ -3,6 +3,7 @@
 
 ghost use Rattle.std.specs.Prelude.{◌≡◌};
 
+use crate::clients::join_all;
 use crate::commands::{LIMITS, create, read, write};
 use std::alloc::{AllocError, Global};
 use std::marker::{Brand, PhantomData};
@@ -10,7 +11,7 @@ use std::sync::Wait;
 use std::test::*;
 use tab_book::{Answered, Book, Seat, Shared, Step};
 use tab_model::{Command, Reply};
-use tab_post::{Channel, Host, Naming, Opened};
+use tab_post::{Channel, Host, Inbox, Naming, Opened};
 use tab_term::Term;
 
 /// A command of a session.
@@ -97,11 +98,22 @@ fn make_steps_in<H: Host>(
     alloc: Global,
     shared: &Shared<H>,
 ) -> Result<Option<usize>, Fail> {
-    let (first, _inbox) = shared.join(host).map_err(|_| "join")?;
-    let (second, _inbox) = shared.join(host).map_err(|_| "join")?;
-    let (third, _inbox) = shared.join(host).map_err(|_| "join")?;
+    let mut sessions = Vec::new(alloc);
+    let mut inboxes = Vec::new(alloc);
+    join_and_step(host, alloc, shared, &mut sessions, &mut inboxes)
+}
+
+fn join_and_step<H: Host>(
+    host: &H,
+    alloc: Global,
+    shared: &Shared<H>,
+    sessions: &mut Vec<Seat>,
+    inboxes: &mut Vec<Inbox<H>>,
+) -> Result<Option<usize>, Fail> {
+    join_all(host, shared, 3, sessions, inboxes)?;
+    let first = *sessions.first().ok_or("no seat")?;
     shared.call(host, &first, create(alloc)?)?;
-    step_differs(host, alloc, shared, &[first, second, third])
+    step_differs(host, alloc, shared, sessions)
 }
 
 fn step_differs<H: Host>(

@@ -8,7 +8,7 @@ use tab_term::{Term, Terms};
 use tab_test_tools::bytes;
 
 /// An answer in few words. Its terms are numbers.
-enum Shape {
+pub enum Shape {
     Done,
     Found(&'static [i128]),
     Aborted(i128),
@@ -73,8 +73,9 @@ fn answer(alloc: Global, shape: &Shape) -> Result<Answer, AllocError> {
     }
 }
 
+/// The answers of these shapes.
 #[cycle(build)]
-fn answers(alloc: Global, shapes: &[Shape]) -> Result<Answers, AllocError> {
+pub fn answers(alloc: Global, shapes: &[Shape]) -> Result<Answers, AllocError> {
     let mut all = Answers::new(alloc);
     for shape in shapes {
         all.push(answer(alloc, shape)?)?;

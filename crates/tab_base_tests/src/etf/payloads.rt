@@ -1,6 +1,6 @@
 //! Payloads: which are terms, and which fault the others have.
 
-use std::alloc::Global;
+use std::alloc::{AllocError, Global};
 use std::test::Fail;
 use tab_etf::{EtfFault, Fault, append_frame, decode, encode, encoded_len};
 use tab_term::{Atom, Bytes, Term, Terms};
@@ -123,75 +123,100 @@ fn is_respelled(alloc: Global, payload: &[u8], want: &[u8]) -> Result<bool, Fail
     Ok(out.as_slice() == want)
 }
 
+/// The same for payloads as hexadecimal digits.
+fn is_written_as(alloc: Global, text: &str, want: &str) -> Result<bool, Fail> {
+    let payload = bytes(alloc, text)?;
+    is_respelled(alloc, &payload, &bytes(alloc, want)?)
+}
+
 #[test]
 fn payloads_are_read_and_written_back(rt: HostRuntime) -> Result<(), Fail> {
-    let alloc = rt.alloc();
     for text in &SPELLED {
-        let payload = bytes(alloc, text)?;
-        assert!(rt; is_respelled(alloc, &payload, &payload)?, "{text}");
-    }
-    for (text, want) in &RESPELLED {
-        let payload = bytes(alloc, text)?;
-        assert!(rt;
-            is_respelled(alloc, &payload, &bytes(alloc, want)?)?,
-            "{text}"
-        );
+        assert!(rt; is_written_as(rt.alloc(), text, text)?, "{text}");
     }
     Ok(())
 }
 
 #[test]
-fn payloads_are_refused_at_their_first_fault(rt: HostRuntime) -> Result<(), Fail> {
-    for (text, fault, place) in &REFUSED {
-        let payload = bytes(rt.alloc(), text)?;
-        assert_eq!(rt;
-            decode(rt.alloc(), &payload).err(),
-            Some(EtfFault::At(*fault, *place)),
-            "{text}"
-        );
+fn payloads_are_read_and_written_in_one_form(rt: HostRuntime) -> Result<(), Fail> {
+    for (text, want) in &RESPELLED {
+        assert!(rt; is_written_as(rt.alloc(), text, want)?, "{text}");
     }
     Ok(())
+}
+
+fn fault_in(alloc: Global, payload: &[u8]) -> Option<EtfFault> {
+    match decode(alloc, payload) {
+        Ok(_) => None,
+        Err(fault) => Some(fault),
+    }
+}
+
+fn fault_of(alloc: Global, text: &str) -> Result<Option<EtfFault>, AllocError> {
+    let payload = bytes(alloc, text)?;
+    Ok(fault_in(alloc, &payload))
+}
+
+#[test]
+fn payloads_are_refused_at_their_first_fault(rt: HostRuntime) {
+    for (text, fault, place) in &REFUSED {
+        let found = fault_of(rt.alloc(), text);
+        assert!(rt; found == Ok(Some(EtfFault::At(*fault, *place))), "{text}");
+    }
+}
+
+/// The number of payloads of this tag and one byte that are terms.
+fn terms_of(alloc: Global, tag: u8) -> u32 {
+    let mut count = 0u32;
+    for byte in 0..=255u8 {
+        if fault_in(alloc, &[131, tag, byte]).is_none() {
+            count = count.saturating_add(1);
+        }
+    }
+    count
 }
 
 #[test]
 fn of_three_bytes_259_payloads_are_terms(rt: HostRuntime) {
     let mut count = 0u32;
     for tag in 0..=255u8 {
-        for byte in 0..=255u8 {
-            if decode(rt.alloc(), &[131, tag, byte]).is_ok() {
-                count = count.wrapping_add(1);
-            }
-        }
+        count = count.saturating_add(terms_of(rt.alloc(), tag));
     }
     // 256 of tag 97, tag 104 with arity 0, tags 115 and 119 with the empty atom
     assert_eq!(rt; count, 259);
 }
 
 /// A map of 5,000 integers as keys, each to the empty list: from 1,000,000 on, in steps that go round after 5,000.
-fn long_map(alloc: Global, first: u32, step: u32) -> Result<Vec<u8>, Fail> {
+fn long_map(alloc: Global, first: u32, step: u32) -> Result<Vec<u8>, AllocError> {
     let mut out = bytes(alloc, "83 74 00001388")?;
     for i in 0..5_000u32 {
         let key = first.wrapping_add(step.wrapping_mul(i)) % 5_000;
-        out.push(98)?;
-        out.extend_from_slice(&1_000_000u32.saturating_add(key).to_be_bytes())?;
-        out.push(106)?;
+        let [a, b, c, d] = 1_000_000u32.saturating_add(key).to_be_bytes();
+        out.extend_from_slice(&[98, a, b, c, d, 106])?;
     }
     Ok(out)
 }
 
-/// The keys falling, mixed, and every second one, which comes again at the 2,501st pair of six bytes each.
+/// Returns whether the map with these keys is written with its keys ascending.
+fn is_sorted(alloc: Global, first: u32, step: u32) -> Result<bool, Fail> {
+    let want = long_map(alloc, 0, 1)?;
+    is_respelled(alloc, &long_map(alloc, first, step)?, &want)
+}
+
 #[test]
 fn a_long_map_is_read_in_any_order(rt: HostRuntime) -> Result<(), Fail> {
-    let alloc = rt.alloc();
-    let want = long_map(alloc, 0, 1)?;
     for (first, step) in [(0, 1), (4_999, 4_999), (0, 1_237)] {
-        let payload = long_map(alloc, first, step)?;
-        assert!(rt; is_respelled(alloc, &payload, &want)?, "the keys ascend");
+        assert!(rt; is_sorted(rt.alloc(), first, step)?, "in steps of {step}");
     }
-    assert_eq!(rt;
-        decode(alloc, &long_map(alloc, 0, 2)?).err(),
-        Some(EtfFault::At(Fault::DuplicateKey, 15_006))
-    );
+    Ok(())
+}
+
+/// Every second key, which comes again at the 2,501st pair of six bytes each.
+#[test]
+fn a_long_map_has_each_key_once(rt: HostRuntime) -> Result<(), Fail> {
+    let payload = long_map(rt.alloc(), 0, 2)?;
+    let fault = fault_in(rt.alloc(), &payload);
+    assert!(rt; fault == Some(EtfFault::At(Fault::DuplicateKey, 15_006)));
     Ok(())
 }
 
@@ -210,11 +235,14 @@ fn framed(alloc: Global, term: &Term) -> Result<Vec<u8>, Fail> {
     Ok(out)
 }
 
-#[test]
-fn a_term_is_built_written_and_read(rt: HostRuntime) -> Result<(), Fail> {
-    let alloc = rt.alloc();
+fn is_framed(alloc: Global) -> Result<bool, Fail> {
     let out = framed(alloc, &built(alloc)?)?;
     let want = bytes(alloc, "FF 00000011 83 6802 7705 7265706C79 6D00000002 0102")?;
-    assert_eq!(rt; out.as_slice(), want.as_slice());
+    Ok(out == want)
+}
+
+#[test]
+fn a_term_is_built_and_written(rt: HostRuntime) -> Result<(), Fail> {
+    assert!(rt; is_framed(rt.alloc())?);
     Ok(())
 }

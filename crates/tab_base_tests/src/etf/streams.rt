@@ -5,9 +5,10 @@ use std::test::Fail;
 use tab_etf::{
     Broken, Counted, Frame, FrameFault, Splitter, Target, decode, read_frame, write_frame,
 };
+use tab_term::Term;
 use tab_test_tools::{Device, bytes};
 
-/// Payloads of terms, and none; the frames of all, one after the other, are 214 bytes.
+/// Payloads of terms; the frames of all, one after the other, are 192 bytes.
 static PAYLOADS: [&str; 7] = [
     "83 6802 7705 7265706C79 7702 6F6B",
     "83 6802 6101 6802 7705 7772697465 6803 7701 74 6101 7701 61",
@@ -30,165 +31,176 @@ fn push_read(out: &mut Vec<u8>, frame: &Frame) -> Result<(), AllocError> {
     }
 }
 
+fn push_hex(alloc: Global, out: &mut Vec<u8>, text: &str) -> Result<(), AllocError> {
+    let payload = bytes(alloc, text)?;
+    push_frame(out, &payload)
+}
+
 fn stream(alloc: Global) -> Result<Vec<u8>, AllocError> {
     let mut out = Vec::new(alloc);
     for text in &PAYLOADS {
-        push_frame(&mut out, &bytes(alloc, text)?)?;
+        push_hex(alloc, &mut out, text)?;
     }
     Ok(out)
 }
 
-#[test]
-fn frames_are_found_at_every_cut(rt: HostRuntime) -> Result<(), Fail> {
-    let alloc = rt.alloc();
-    let mut stream = stream(alloc)?;
-    stream.extend_from_slice(&[0, 0, 0, 0])?;
-    for cut in 0..=stream.len() {
-        let mut splitter = Splitter::new(alloc);
-        let mut out = Vec::new(alloc);
-        for piece in [&stream[..cut], &stream[cut..]] {
-            for frame in &splitter.feed(piece)? {
-                push_read(&mut out, frame)?;
-            }
-        }
-        assert!(rt; out.as_slice() == stream.as_slice(), "cut at {cut}");
-        assert!(rt; splitter.finish().is_ok() && splitter.before_fault().is_empty());
+/// Feeds a piece, and adds the frames that it ends.
+fn feed(splitter: &mut Splitter, piece: &[u8], out: &mut Vec<u8>) -> Result<(), Fail> {
+    for frame in &splitter.feed(piece)? {
+        push_read(out, frame)?;
     }
     Ok(())
+}
+
+/// Returns whether the frames of both pieces are all of the stream.
+fn is_whole(alloc: Global, stream: &[u8], cut: usize) -> Result<bool, Fail> {
+    let (first, second) = stream.split_at(cut.min(stream.len()));
+    let mut splitter = Splitter::new(alloc);
+    let mut out = Vec::new(alloc);
+    feed(&mut splitter, first, &mut out)?;
+    feed(&mut splitter, second, &mut out)?;
+    let is_ended = splitter.finish().is_ok() && splitter.before_fault().is_empty();
+    Ok(is_ended && out.as_slice() == stream)
+}
+
+#[test]
+fn frames_are_found_at_every_cut(rt: HostRuntime) -> Result<(), Fail> {
+    let mut stream = stream(rt.alloc())?;
+    push_frame(&mut stream, &[])?;
+    for cut in 0..=stream.len() {
+        assert!(rt; is_whole(rt.alloc(), &stream, cut)?, "cut at {cut}");
+    }
+    Ok(())
+}
+
+/// Returns whether so many bytes, one after another, end so many frames.
+fn are_fed(splitter: &mut Splitter, bytes: u32, byte: u8, wanted: usize) -> Result<bool, Fail> {
+    let mut frames = 0usize;
+    for _ in 0..bytes {
+        frames = frames.saturating_add(splitter.feed(&[byte])?.len());
+    }
+    Ok(frames == wanted)
 }
 
 /// The longest frame that is read. Were the bytes that wait looked at or moved at each piece, it would take hours.
 #[test]
 fn a_long_frame_comes_byte_by_byte(rt: HostRuntime) -> Result<(), Fail> {
     let mut splitter = Splitter::new(rt.alloc());
-    for byte in [0x00, 0x10, 0x00, 0x00u8] {
-        assert!(rt; splitter.feed(&[byte])?.is_empty());
-    }
-    for left in 0..1_048_576u32 {
-        let frames = splitter.feed(&[7])?;
-        assert!(rt; frames.is_empty() == (left < 1_048_575));
-    }
+    let is_begun = splitter.feed(&[0x00, 0x10])?.is_empty() && are_fed(&mut splitter, 2, 0, 0)?;
+    let is_open = is_begun && are_fed(&mut splitter, 1_048_575, 7, 0)?;
+    assert!(rt; is_open && are_fed(&mut splitter, 1, 7, 1)?);
     Ok(())
 }
 
-/// Their payloads, each read by itself, and nothing after them.
-#[test]
-fn frames_are_read_one_after_the_other(rt: HostRuntime) -> Result<(), Fail> {
-    let alloc = rt.alloc();
-    let stream = stream(alloc)?;
-    let mut reader = Counted::new(Device {
-        inner: stream.as_slice(),
+/// A reader of seven bytes a call that fails after so many.
+fn reader_of(stream: &[u8], left: u32) -> Counted<Device<&[u8]>> {
+    Counted::new(Device {
+        inner: stream,
         size: 7,
-        left: 1_000,
-    });
-    for text in &PAYLOADS {
-        let payload = bytes(alloc, text)?;
-        let found = match read_frame(alloc, &mut reader)? {
-            Some(Frame::Payload(found)) => found == payload,
-            _ => false,
-        };
-        assert!(rt; found, "{text}");
+        left,
+    })
+}
+
+/// Reads frames up to a fault or the end, at most eight, and adds them.
+fn read_all(
+    alloc: Global,
+    reader: &mut Counted<Device<&[u8]>>,
+    out: &mut Vec<u8>,
+) -> Result<Option<FrameFault>, AllocError> {
+    for _ in 0..8 {
+        match read_frame(alloc, reader) {
+            Ok(Some(frame)) => push_read(out, &frame)?,
+            Ok(None) => return Ok(None),
+            Err(fault) => return Ok(Some(fault)),
+        }
     }
-    assert!(rt; read_frame(alloc, &mut reader)?.is_none());
-    Ok(())
+    Ok(None)
+}
+
+/// Calls of seven bytes at most: a length and the pieces of a payload for each frame, and the end.
+const READS: u32 = 34;
+
+/// Returns whether a reader that fails after so many calls gives whole frames and its fault.
+fn is_read(alloc: Global, stream: &[u8], left: u32) -> Result<bool, AllocError> {
+    let mut reader = reader_of(stream, left);
+    let mut out = Vec::new(alloc);
+    let fault = read_all(alloc, &mut reader, &mut out)?;
+    let is_begin = stream.starts_with(&out) && out.len() <= 7 * left as usize;
+    let is_all = left < READS || out.len() == stream.len();
+    let is_fault = fault == (left < READS).then_some(FrameFault::Device);
+    Ok(is_begin && is_all && is_fault && reader.faults() == u64::from(left < READS))
 }
 
 #[test]
 fn a_reader_fails_at_each_call(rt: HostRuntime) -> Result<(), Fail> {
-    let alloc = rt.alloc();
-    let stream = stream(alloc)?;
+    let stream = stream(rt.alloc())?;
     for left in 0..60u32 {
-        let mut reader = Counted::new(Device {
-            inner: stream.as_slice(),
-            size: 7,
-            left,
-        });
-        let mut out = Vec::new(alloc);
-        let mut fault = None;
-        for _ in 0..7 {
-            match read_frame(alloc, &mut reader) {
-                Ok(Some(frame)) => push_read(&mut out, &frame)?,
-                Ok(None) => break,
-                Err(found) => {
-                    fault = Some(found);
-                    break;
-                }
-            }
-        }
-        assert!(rt; stream.starts_with(&out), "whole frames before call {left}");
         assert!(rt;
-            out.len() <= 7 * left as usize,
-            "no more than came before call {left}"
-        );
-        assert!(rt; left < 59 || out.len() == stream.len(), "all of them");
-        let lost = if out.len() < stream.len() {
-            Some(FrameFault::Device)
-        } else {
-            None
-        };
-        assert!(rt;
-            reader.faults() == u64::from(lost.is_some()) && fault == lost,
+            is_read(rt.alloc(), &stream, left) == Ok(true),
             "call {left}"
         );
     }
     Ok(())
 }
 
-#[test]
-fn a_writer_fails_at_each_call(rt: HostRuntime) -> Result<(), Fail> {
-    let alloc = rt.alloc();
-    let stream = stream(alloc)?;
+fn terms(alloc: Global) -> Result<Vec<Term>, Fail> {
     let mut terms = Vec::new(alloc);
     for text in &PAYLOADS {
         terms.push(decode(alloc, &bytes(alloc, text)?)?)?;
     }
-    for left in 0..60u32 {
-        let inner: Vec<u8> = Vec::new(alloc);
-        let mut writer = Counted::new(Device {
-            inner,
-            size: 7,
-            left,
-        });
-        let mut answer = Ok(());
-        for term in &terms {
-            answer = write_frame(&mut writer, term);
-            if answer.is_err() {
-                break;
-            }
+    Ok(terms)
+}
+
+/// Writes all up to a fault.
+fn write_all(writer: &mut Counted<Device<Vec<u8>>>, terms: &[Term]) -> Option<FrameFault> {
+    for term in terms {
+        if let Err(fault) = write_frame(writer, term) {
+            return Some(fault);
         }
-        let faults = writer.faults();
-        let written = writer.into_inner().inner;
+    }
+    None
+}
+
+/// Returns whether a writer that fails after so many calls has a beginning of the frames and its fault.
+fn is_written(alloc: Global, terms: &[Term], stream: &[u8], left: u32) -> bool {
+    let mut writer = Counted::new(Device {
+        inner: Vec::new(alloc),
+        size: 7,
+        left,
+    });
+    let fault = write_all(&mut writer, terms);
+    let faults = writer.faults();
+    let written = writer.into_inner().inner;
+    let is_begin = stream.starts_with(&written) && written.is_empty() == (left == 0);
+    let is_cut = written.len() < stream.len();
+    let is_fault = fault == is_cut.then_some(FrameFault::Device) && faults == u64::from(is_cut);
+    is_begin && is_fault && (left < 59 || !is_cut)
+}
+
+#[test]
+fn a_writer_fails_at_each_call(rt: HostRuntime) -> Result<(), Fail> {
+    let terms = terms(rt.alloc())?;
+    let stream = stream(rt.alloc())?;
+    for left in 0..60u32 {
         assert!(rt;
-            stream.starts_with(&written),
-            "a beginning of the frames before call {left}"
-        );
-        assert!(rt;
-            written.is_empty() == (left == 0),
-            "something before call {left}"
-        );
-        assert!(rt; left < 59 || written.len() == stream.len(), "all of them");
-        let lost = if written.len() < stream.len() {
-            Err(FrameFault::Device)
-        } else {
-            Ok(())
-        };
-        assert!(rt;
-            faults == u64::from(lost.is_err()) && answer == lost,
+            is_written(rt.alloc(), &terms, &stream, left),
             "call {left}"
         );
     }
     Ok(())
 }
 
-#[test]
-fn a_flush_reaches_the_device(rt: HostRuntime) {
-    let inner: Vec<u8> = Vec::new(rt.alloc());
+/// Returns whether a device that fails at its second call is flushed once, and has one fault then.
+fn is_flushed(alloc: Global) -> bool {
     let mut device = Counted::new(Device {
-        inner,
+        inner: Vec::new(alloc),
         size: 7,
         left: 1,
     });
-    assert_eq!(rt; device.flush(), Ok(()));
-    assert_eq!(rt; device.flush(), Err(Broken));
-    assert_eq!(rt; device.faults(), 1);
+    device.flush() == Ok(()) && device.flush() == Err(Broken) && device.faults() == 1
+}
+
+#[test]
+fn a_flush_reaches_the_device(rt: HostRuntime) {
+    assert!(rt; is_flushed(rt.alloc()));
 }

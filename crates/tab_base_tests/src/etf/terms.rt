@@ -1,6 +1,6 @@
 //! Terms: their order, their copies, patterns and numbers, against tables from outside. A term is given as its payload.
 
-use std::alloc::Global;
+use std::alloc::{AllocError, Global};
 use std::test::Fail;
 use tab_etf::decode;
 use tab_key::Abbreviate;
@@ -116,48 +116,83 @@ static NUMBERS: [(&str, u64, u64); 11] = [
     ("83 7400000001 6101 6801 7701 5F", 3, 0x0074_0000_0000_0001),
 ];
 
-#[test]
-fn terms_stand_in_the_order_of_their_spellings(rt: HostRuntime) -> Result<(), Fail> {
-    let alloc = rt.alloc();
-    let mut terms = Vec::new(alloc);
-    for text in &ASCENDING {
-        terms.push(held(alloc, text)?)?;
-    }
-    for (i, a) in terms.iter().enumerate() {
-        for (j, b) in terms.iter().enumerate() {
-            assert!(rt;
-                a.cmp(b) == i.cmp(&j) && (a == b) == (i == j),
-                "{i} against {j}"
-            );
-        }
-        assert!(rt; a.try_clone(alloc)? == *a, "a copy of {i}");
-    }
-    Ok(())
-}
-
 fn held(alloc: Global, text: &str) -> Result<Term, Fail> {
     Ok(decode(alloc, &bytes(alloc, text)?)?)
 }
 
+fn ascending(alloc: Global) -> Result<Vec<Term>, Fail> {
+    let mut terms = Vec::new(alloc);
+    for text in &ASCENDING {
+        terms.push(held(alloc, text)?)?;
+    }
+    Ok(terms)
+}
+
+/// Returns whether the term with this number is less than those after it, greater than those before it, and equal to itself.
+fn is_in_order(terms: &[Term], number: usize, term: &Term) -> bool {
+    let mut right = true;
+    for (i, other) in terms.iter().enumerate() {
+        right &= term.cmp(other) == number.cmp(&i) && (term == other) == (number == i);
+    }
+    right
+}
+
+fn is_copied(alloc: Global, term: &Term) -> bool {
+    match term.try_clone(alloc) {
+        Ok(copy) => copy == *term,
+        Err(_) => false,
+    }
+}
+
 #[test]
-fn patterns_match(rt: HostRuntime) -> Result<(), Fail> {
-    let alloc = rt.alloc();
-    for (pattern, subject, fits, wild) in &PATTERNS {
-        let found = matches(&held(alloc, pattern)?, &held(alloc, subject)?);
-        assert!(rt; found == *fits, "{pattern}");
-        assert!(rt; has_wildcard(&held(alloc, pattern)?) == *wild, "{pattern}");
+fn terms_stand_in_the_order_of_their_spellings(rt: HostRuntime) -> Result<(), Fail> {
+    let terms = ascending(rt.alloc())?;
+    for (number, term) in terms.iter().enumerate() {
+        assert!(rt;
+            is_in_order(&terms, number, term) && is_copied(rt.alloc(), term),
+            "term {number}"
+        );
     }
     Ok(())
 }
 
+/// Returns whether the pattern fits as it should, and has a wildcard if it should.
+fn is_matched(
+    alloc: Global,
+    pattern: &str,
+    subject: &str,
+    (fits, wild): (bool, bool),
+) -> Result<bool, Fail> {
+    let pattern = held(alloc, pattern)?;
+    let found = matches(&pattern, &held(alloc, subject)?);
+    Ok(found == fits && has_wildcard(&pattern) == wild)
+}
+
+#[test]
+fn patterns_match(rt: HostRuntime) -> Result<(), Fail> {
+    for (pattern, subject, fits, wild) in &PATTERNS {
+        let right = is_matched(rt.alloc(), pattern, subject, (*fits, *wild))?;
+        assert!(rt; right, "{pattern}");
+    }
+    Ok(())
+}
+
+/// A term's depth and number.
+fn numbers(alloc: Global, text: &str) -> Result<(u64, u64), Fail> {
+    let term = held(alloc, text)?;
+    Ok((term.depth(), term.abbreviated()))
+}
+
+fn number_of_a_copy(alloc: Global) -> Result<u64, AllocError> {
+    let name = Atom::from_short_text(alloc, "person")?;
+    Ok(name.try_clone(alloc)?.abbreviated())
+}
+
 #[test]
 fn terms_have_depths_and_numbers(rt: HostRuntime) -> Result<(), Fail> {
-    let alloc = rt.alloc();
     for (text, depth, number) in &NUMBERS {
-        assert!(rt; held(alloc, text)?.depth() == *depth, "{text}");
-        assert!(rt; held(alloc, text)?.abbreviated() == *number, "{text}");
+        assert!(rt; numbers(rt.alloc(), text)? == (*depth, *number), "{text}");
     }
-    let name = Atom::from_short_text(alloc, "person")?.try_clone(alloc)?;
-    assert_eq!(rt; name.abbreviated(), 0x0070_6572_736f_6e00);
+    assert!(rt; number_of_a_copy(rt.alloc()) == Ok(0x0070_6572_736f_6e00));
     Ok(())
 }

@@ -30,15 +30,17 @@ fn has(mirror: &Mirror, key: i128) -> bool {
     }
 }
 
-#[test]
-fn mirrors_follow(rt: HostRuntime) -> Result<(), Fail> {
-    let alloc = rt.alloc();
+fn fed(alloc: Global) -> Result<Mirror, Fail> {
     let told = terms(alloc)?;
     let mut mirror = Mirror::new(Atom::from_short_text(alloc, "t")?, Kind::Set);
     feed_all(&mut mirror, alloc, &told)?;
-    assert!(rt;
-        !has(&mirror, 1) && has(&mirror, 2),
-        "the second record alone"
-    );
+    Ok(mirror)
+}
+
+#[test]
+fn mirrors_follow(rt: HostRuntime) -> Result<(), Fail> {
+    let mirror = fed(rt.alloc())?;
+    let right = !has(&mirror, 1) && has(&mirror, 2);
+    assert!(rt; right, "the second record alone");
     Ok(())
 }

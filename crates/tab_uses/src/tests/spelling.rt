@@ -2,7 +2,6 @@
 
 use crate::{AgainFault, PayloadFault, append_canonical, term_again};
 use std::alloc::{AllocError, Global};
-use std::test::Fail;
 use tab_etf::{EtfFault, Fault, decode, encode};
 use tab_term::{Pairs, Term, Terms};
 
@@ -57,20 +56,26 @@ fn fault_of(alloc: Global, value: &Term) -> Option<AgainFault> {
     term_again(alloc, value).err()
 }
 
-#[test]
-fn others_do_not(rt: HostRuntime) -> Result<(), Fail> {
-    let alloc = rt.alloc();
-    let deepest = nested(alloc, 64)?;
-    assert!(rt; fault_of(alloc, &deepest) == None, "64 levels");
-    let deeper = nested(alloc, 65)?;
-    let depth = AgainFault::Decode(EtfFault::At(Fault::Depth, 129));
-    assert!(rt; fault_of(alloc, &deeper) == Some(depth), "65 levels");
+fn fault_at_depth(alloc: Global, levels: u32) -> Result<Option<AgainFault>, AllocError> {
+    let value = nested(alloc, levels)?;
+    Ok(fault_of(alloc, &value))
+}
+
+fn fault_out_of_order(alloc: Global) -> Result<Option<AgainFault>, AllocError> {
     let map = out_of_order(alloc)?;
+    Ok(fault_of(alloc, &map))
+}
+
+#[test]
+fn others_do_not(rt: HostRuntime) {
+    let alloc = rt.alloc();
+    assert!(rt; fault_at_depth(alloc, 64) == Ok(None), "64 levels");
+    let depth = AgainFault::Decode(EtfFault::At(Fault::Depth, 129));
+    assert!(rt; fault_at_depth(alloc, 65) == Ok(Some(depth)), "65 levels");
     assert!(rt;
-        fault_of(alloc, &map) == Some(AgainFault::OtherTerm),
+        fault_out_of_order(alloc) == Ok(Some(AgainFault::OtherTerm)),
         "a map out of order"
     );
-    Ok(())
 }
 
 /// Payloads; the fault of each and its position, if it is no term; and the bytes after the byte 7 then.
@@ -92,13 +97,19 @@ fn fault_at(written: Result<(), PayloadFault>) -> Option<(Fault, usize)> {
     }
 }
 
+/// Returns whether the payload has this fault, and these are the bytes after the byte 7.
+fn is_appended(
+    alloc: Global,
+    (payload, fault, wanted): &(&[u8], Option<(Fault, usize)>, &[u8]),
+) -> Result<bool, AllocError> {
+    let mut out = Vec::from_slice(alloc, b"\x07")?;
+    let written = append_canonical(alloc, payload, &mut out);
+    Ok(fault_at(written) == *fault && out.as_slice() == *wanted)
+}
+
 #[test]
-fn payloads_are_written_anew(rt: HostRuntime) -> Result<(), Fail> {
-    for (line, (payload, fault, wanted)) in PAYLOADS.iter().enumerate() {
-        let mut out = Vec::from_slice(rt.alloc(), b"\x07")?;
-        let written = append_canonical(rt.alloc(), payload, &mut out);
-        assert!(rt; fault_at(written) == *fault, "the fault of line {line}");
-        assert!(rt; out.as_slice() == *wanted, "the bytes of line {line}");
+fn payloads_are_written_anew(rt: HostRuntime) {
+    for (line, row) in PAYLOADS.iter().enumerate() {
+        assert!(rt; is_appended(rt.alloc(), row) == Ok(true), "line {line}");
     }
-    Ok(())
 }

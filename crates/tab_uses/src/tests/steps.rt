@@ -5,7 +5,7 @@ use std::alloc::{AllocError, Global};
 use std::test::Fail;
 use tab_core::{Core, Step};
 use tab_model::{Command, Limits, Reply, SharedReply};
-use tab_outbox::RingPost;
+use tab_outbox::{Post, RingPost};
 
 static LIMITS: Limits = Limits {
     sessions: 1,
@@ -36,19 +36,31 @@ fn number(told: &SharedReply) -> u64 {
     }
 }
 
-#[test]
-fn steps_are_answered(rt: HostRuntime) -> Result<(), Fail> {
-    let (mut core, told) = run(rt.alloc())?;
-    let right = match told.as_slice() {
+/// Returns whether these are the replies of the run.
+fn are_right(told: &[SharedReply]) -> bool {
+    match told {
         [joined, begun, committed] => {
             number(joined) == 10 && number(begun) == 21 && number(committed) == 31
         }
         _ => false,
-    };
-    assert!(rt; right, "join, begin, commit");
-    let refused = reply_to(&mut core, 1, Command::Commit)?;
-    assert!(rt; number(&refused) == 11, "no transaction is open");
-    let begun = reply_to(&mut core, 1, Command::Begin)?;
-    assert!(rt; number(&begun) == 22, "the second begin");
+    }
+}
+
+/// The reply to a command of session 1, as one number.
+fn number_of(core: &mut Core<RingPost>, command: Command) -> Result<u64, AllocError> {
+    let reply = reply_to(core, 1, command)?;
+    Ok(number(&reply))
+}
+
+#[test]
+fn steps_are_answered(rt: HostRuntime) -> Result<(), Fail> {
+    let (mut core, told) = run(rt.alloc())?;
+    assert!(rt; are_right(&told), "join, begin, commit");
+    let refused = number_of(&mut core, Command::Commit);
+    assert!(rt; refused == Ok(11), "no transaction is open");
+    let begun = number_of(&mut core, Command::Begin);
+    assert!(rt; begun == Ok(22), "the second begin");
+    let is_open = core.post(1).is_some_and(|post| post.refusals() == 0);
+    assert!(rt; is_open, "a post that refused nothing");
     Ok(())
 }

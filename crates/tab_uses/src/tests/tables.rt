@@ -1,7 +1,7 @@
 //! A set of `{t,2,b}`, `{t,1,a}` and `{t,3,a}`, written in this order, with an index on its values.
 
 use crate::{first_match, first_with, keys_after};
-use std::alloc::Global;
+use std::alloc::{AllocError, Global};
 use std::test::Fail;
 use tab_etf::decode;
 use tab_index::IndexedTable;
@@ -9,17 +9,17 @@ use tab_model::{Atoms, Change, Kind, Numbers, TableDef};
 use tab_rows::Update;
 use tab_term::{Atom, Term};
 
-static ROWS: [&[u8]; 3] = [
-    b"\x83h\x03w\x01ta\x02w\x01b",
-    b"\x83h\x03w\x01ta\x01w\x01a",
-    b"\x83h\x03w\x01ta\x03w\x01a",
-];
+const ROW_2: &[u8] = b"\x83h\x03w\x01ta\x02w\x01b";
 
-/// `{t,'_',a}`, `{t,2,'_'}` and `{t,9,'_'}`.
-static PATTERNS: [&[u8]; 3] = [
-    b"\x83h\x03w\x01tw\x01_w\x01a",
-    b"\x83h\x03w\x01ta\x02w\x01_",
-    b"\x83h\x03w\x01ta\x09w\x01_",
+const ROW_1: &[u8] = b"\x83h\x03w\x01ta\x01w\x01a";
+
+static ROWS: [&[u8]; 3] = [ROW_2, ROW_1, b"\x83h\x03w\x01ta\x03w\x01a"];
+
+/// `{t,'_',a}`, `{t,2,'_'}` and `{t,9,'_'}`, and the row that is the first to fit each.
+static PATTERNS: [(&[u8], Option<&[u8]>); 3] = [
+    (b"\x83h\x03w\x01tw\x01_w\x01a", Some(ROW_1)),
+    (b"\x83h\x03w\x01ta\x02w\x01_", Some(ROW_2)),
+    (b"\x83h\x03w\x01ta\x09w\x01_", None),
 ];
 
 fn term(alloc: Global, payload: &[u8]) -> Result<Term, Fail> {
@@ -34,22 +34,30 @@ fn writes(alloc: Global) -> Result<Vec<Change>, Fail> {
     Ok(changes)
 }
 
-fn table(alloc: Global) -> Result<IndexedTable, Fail> {
-    let def = TableDef {
+fn def(alloc: Global) -> Result<TableDef, AllocError> {
+    let indexes = Vec::from_slice(alloc, &[3])?;
+    Ok(TableDef {
         name: Atom::from_short_text(alloc, "t")?,
         kind: Kind::Set,
         attributes: Atoms {
             items: Vec::new(alloc),
         },
-        indexes: Numbers {
-            items: Vec::from_slice(alloc, &[3])?,
-        },
-    };
+        indexes: Numbers { items: indexes },
+    })
+}
+
+fn updates(alloc: Global) -> Result<Vec<Update>, Fail> {
     let mut updates = Vec::new(alloc);
-    for change in writes(alloc)? {
-        updates.push(Update::new(change))?;
+    for payload in &ROWS {
+        updates.push(Update::new(Change::Write(term(alloc, payload)?)))?;
     }
-    Ok(IndexedTable::new(alloc, def)?.updated(alloc, &updates, None)?)
+    Ok(updates)
+}
+
+fn table(alloc: Global) -> Result<IndexedTable, Fail> {
+    let updates = updates(alloc)?;
+    let table = IndexedTable::new(alloc, def(alloc)?)?;
+    Ok(table.updated(alloc, &updates, None)?)
 }
 
 fn is_number(found: Option<&Term>, number: i128) -> bool {
@@ -59,28 +67,62 @@ fn is_number(found: Option<&Term>, number: i128) -> bool {
     }
 }
 
-#[test]
-fn keys_ascend(rt: HostRuntime) -> Result<(), Fail> {
-    let alloc = rt.alloc();
+fn are_ascending(alloc: Global) -> Result<bool, Fail> {
     let found = keys_after(alloc, Kind::Set, &writes(alloc)?)?;
     let mut keys = found.iter();
     let right = is_number(keys.next(), 1) && is_number(keys.next(), 2) && is_number(keys.next(), 3);
-    assert!(rt; right && keys.next().is_none(), "1, 2 and 3");
+    Ok(right && keys.next().is_none())
+}
+
+#[test]
+fn keys_ascend(rt: HostRuntime) -> Result<(), Fail> {
+    assert!(rt; are_ascending(rt.alloc())?, "1, 2 and 3");
     Ok(())
+}
+
+/// Returns whether the row that was found has this encoding.
+fn is_row(alloc: Global, found: Option<Term>, wanted: Option<&[u8]>) -> Result<bool, Fail> {
+    match (found, wanted) {
+        (Some(row), Some(payload)) => Ok(row == term(alloc, payload)?),
+        (found, wanted) => Ok(found.is_none() && wanted.is_none()),
+    }
+}
+
+/// Returns whether the first row with the value a is found.
+fn is_found(alloc: Global, table: &IndexedTable) -> Result<bool, Fail> {
+    let value = term(alloc, b"\x83w\x01a")?;
+    is_row(alloc, first_with(alloc, table, 3, &value)?, Some(ROW_1))
+}
+
+/// Returns whether the first row that fits the pattern is found.
+fn is_matched(
+    alloc: Global,
+    table: &IndexedTable,
+    pattern: &[u8],
+    wanted: Option<&[u8]>,
+) -> Result<bool, Fail> {
+    let pattern = term(alloc, pattern)?;
+    is_row(alloc, first_match(alloc, table, &pattern)?, wanted)
+}
+
+fn are_found(alloc: Global, table: &IndexedTable) -> Result<bool, Fail> {
+    let mut right = is_found(alloc, table)?;
+    for (pattern, wanted) in &PATTERNS {
+        right &= is_matched(alloc, table, pattern, *wanted)?;
+    }
+    Ok(right)
+}
+
+fn queries_are_right(alloc: Global) -> Result<bool, Fail> {
+    let table = table(alloc)?;
+    are_found(alloc, &table)
 }
 
 #[test]
 fn queries_find_the_first(rt: HostRuntime) -> Result<(), Fail> {
-    let alloc = rt.alloc();
-    let table = table(alloc)?;
-    let value = term(alloc, b"\x83w\x01a")?;
-    let with_value = first_with(alloc, &table, 3, &value)?;
-    assert!(rt; with_value == Some(term(alloc, ROWS[1])?), "the value a");
-    let any_key = first_match(alloc, &table, &term(alloc, PATTERNS[0])?)?;
-    assert!(rt; any_key == Some(term(alloc, ROWS[1])?), "any key");
-    let one_key = first_match(alloc, &table, &term(alloc, PATTERNS[1])?)?;
-    assert!(rt; one_key == Some(term(alloc, ROWS[0])?), "one key");
-    let no_key = first_match(alloc, &table, &term(alloc, PATTERNS[2])?)?;
-    assert!(rt; no_key == None, "no key");
+    assert!(rt;
+        queries_are_right(rt.alloc())?,
+        "a value, any key, one key, no key"
+    );
     Ok(())
 }

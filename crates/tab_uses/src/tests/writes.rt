@@ -61,10 +61,20 @@ fn ending_differs_in<H: Host>(
 ) -> Result<Option<usize>, Fail> {
     let (reader, _inbox) = shared.join(host).map_err(|_| "join")?;
     let (writer, _inbox) = shared.join(host).map_err(|_| "join")?;
-    shared.call(host, &reader, create(alloc)?)?;
-    shared.call(host, &reader, Command::Begin)?;
-    shared.call(host, &reader, read(alloc)?)?;
-    write_differs(host, alloc, shared, &writer)
+    read_and_write(host, alloc, shared, &reader, &writer)
+}
+
+fn read_and_write<H: Host>(
+    host: &H,
+    alloc: Global,
+    shared: &Shared<H>,
+    reader: &Seat,
+    writer: &Seat,
+) -> Result<Option<usize>, Fail> {
+    shared.call(host, reader, create(alloc)?)?;
+    shared.call(host, reader, Command::Begin)?;
+    shared.call(host, reader, read(alloc)?)?;
+    write_differs(host, alloc, shared, writer)
 }
 
 fn write_differs<H: Host>(

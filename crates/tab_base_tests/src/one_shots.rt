@@ -495,18 +495,22 @@ fn is_right(alloc: Global, case: &Case) -> Result<bool, AllocError> {
     Ok(is_put && slot.is_right() && frame.get(14..) == Some(case.reply.as_bytes()))
 }
 
+/// The first case that differs.
+fn wrong_case(alloc: Global, cases: &[Case]) -> Option<usize> {
+    for (number, case) in cases.iter().enumerate() {
+        if is_right(alloc, case) != Ok(true) {
+            return Some(number);
+        }
+    }
+    None
+}
+
 #[test]
 fn one_shots_are_driven(rt: HostRuntime) {
-    for (number, case) in CASES.iter().enumerate() {
-        let right = is_right(rt.alloc(), case);
-        assert!(rt; right == Ok(true), "case {number}");
-    }
+    assert_eq!(rt; wrong_case(rt.alloc(), &CASES), None);
 }
 
 #[test]
 fn a_stranger_ends_it(rt: HostRuntime) {
-    for (number, case) in STRANGERS.iter().enumerate() {
-        let right = is_right(rt.alloc(), case);
-        assert!(rt; right == Ok(true), "case {number}");
-    }
+    assert_eq!(rt; wrong_case(rt.alloc(), &STRANGERS), None);
 }

@@ -75,16 +75,23 @@ fn is_shaped(
     }
 }
 
+/// The records before an update.
+fn old(alloc: Global) -> Result<SharedTerms, EncodeFault> {
+    let old = decode(alloc, OLD).or(Err(EncodeFault::NoMemory))?;
+    let mut records = Vec::with_capacity(alloc, 1)?;
+    records.push_reserved(old);
+    Ok(SharedTerms::from_terms(Terms::from_vec(records)))
+}
+
+fn is_read_back(alloc: Global, payload: &[u8], level: Level) -> Result<Option<bool>, EncodeFault> {
+    let told = decode(alloc, payload).or(Err(EncodeFault::NoMemory))?;
+    is_shaped(alloc, &told, old(alloc)?, level)
+}
+
 #[test]
 fn events_are_read_back(rt: HostRuntime) {
-    let alloc = rt.alloc();
     for (number, (bytes, level)) in EVENTS.iter().enumerate() {
-        let told = decode(alloc, bytes).expect(&rt, "a term");
-        let old = decode(alloc, OLD).expect(&rt, "a term");
-        let mut records = Vec::new(alloc);
-        records.push(old).expect(&rt, "memory");
-        let records = SharedTerms::from_terms(Terms::from_vec(records));
-        let found = is_shaped(alloc, &told, records, *level);
+        let found = is_read_back(rt.alloc(), bytes, *level);
         assert!(rt; found == Ok(Some(true)), "event {number}");
     }
 }

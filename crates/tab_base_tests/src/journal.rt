@@ -1,5 +1,6 @@
 //! Entries that are audited, and folded into the base.
 use std::alloc::{AllocError, Global};
+use std::test::Fail;
 use tab_journal::Journal;
 use tab_lists::SharedTerms;
 use tab_model::{
@@ -26,7 +27,9 @@ enum Made {
 }
 
 /// The moves of commit 1, what an audit says of them, and the value that they leave at key 1.
-static COMMITS: [(&[Made], bool, Option<i128>); 9] = [
+type Row = (&'static [Made], bool, Option<i128>);
+
+static COMMITS: [Row; 9] = [
     (&[], true, None),
     (&[Made::Write(1), Made::Read(1)], true, Some(1)),
     (&[Made::Write(1), Made::Read(2)], false, Some(1)),
@@ -156,22 +159,34 @@ fn commit(alloc: Global, all: &[Made]) -> Result<Entry, AllocError> {
     })
 }
 
-/// Table t is made, session 7 watches it, and there is a commit.
-fn filled(alloc: Global, moves: &[Made]) -> Result<Journal, AllocError> {
-    let mut journal = Journal::with_limit(alloc, 3, MOST_BYTES)?;
-    let options = Terms::from_vec(Vec::new(alloc));
+fn created(alloc: Global, options: Terms) -> Result<Entry, AllocError> {
     let create = Schema::Create(atom(alloc, "t")?, options);
-    journal
-        .try_push(Entry::Changed(create, none(alloc)))
-        .or(Err(AllocError))?;
-    let watch = Entry::Subscribed {
+    Ok(Entry::Changed(create, none(alloc)))
+}
+
+fn watched(alloc: Global) -> Result<Entry, AllocError> {
+    Ok(Entry::Subscribed {
         session: 7,
         table: atom(alloc, "t")?,
         level: Level::Simple,
         dump: false,
-    };
-    journal.try_push(watch).or(Err(AllocError))?;
-    journal.try_push(commit(alloc, moves)?).or(Err(AllocError))?;
+    })
+}
+
+fn push(journal: &mut Journal, entry: Entry) -> Result<(), AllocError> {
+    journal.try_push(entry).or(Err(AllocError))
+}
+
+fn push_history(alloc: Global, journal: &mut Journal, moves: &[Made]) -> Result<(), AllocError> {
+    push(journal, created(alloc, Terms::from_vec(Vec::new(alloc)))?)?;
+    push(journal, watched(alloc)?)?;
+    push(journal, commit(alloc, moves)?)
+}
+
+/// Table t is made, session 7 watches it, and there is a commit.
+fn filled(alloc: Global, moves: &[Made]) -> Result<Journal, AllocError> {
+    let mut journal = Journal::with_limit(alloc, 3, MOST_BYTES)?;
+    push_history(alloc, &mut journal, moves)?;
     Ok(journal)
 }
 
@@ -212,53 +227,101 @@ fn base_of(alloc: Global, journal: &Journal) -> Result<(u64, usize, Option<i128>
     Ok((base.commits(), base.subscriptions().len(), value))
 }
 
+/// The same history, folded with the tables of another journal's base.
+fn folded(alloc: Global, moves: &[Made], other: &Journal) -> Result<Journal, AllocError> {
+    let mut journal = filled(alloc, moves)?;
+    fold(alloc, &mut journal, other)?;
+    Ok(journal)
+}
+
+/// Returns whether the base has commit 1, so many subscriptions, and the value.
+fn is_base(alloc: Global, journal: &Journal, subscriptions: usize, value: Option<i128>) -> bool {
+    base_of(alloc, journal) == Ok((1, subscriptions, value))
+}
+
 /// The entries are audited against the tables that they leave and against none.
-fn is_right(
+fn is_audited(
     alloc: Global,
-    moves: &[Made],
+    journal: &Journal,
+    folded: &Journal,
     audit: bool,
-    value: Option<i128>,
 ) -> Result<bool, AllocError> {
-    let journal = filled(alloc, moves)?;
-    let mut folded = filled(alloc, moves)?;
-    let is_full = folded.full() && folded.len() == 3 && folded.entry(2).is_some();
-    fold(alloc, &mut folded, &journal)?;
-    let mut committed = filled(alloc, moves)?;
-    fold(alloc, &mut committed, &folded)?;
-    let wanted = base_of(alloc, &folded)? == (1, 1, value);
-    let is_same = base_of(alloc, &committed)? == (1, 1, value);
-    folded.forget(7);
-    let is_forgotten = base_of(alloc, &folded)? == (1, 0, value);
     let found = journal.audit(alloc, journal.base(), folded.base().tables())?;
     let without = journal.audit(alloc, journal.base(), journal.base().tables())?;
-    Ok(is_full && wanted && is_same && is_forgotten && found == audit && !without)
+    Ok(found == audit && !without)
+}
+
+/// Returns whether they leave the same base, folded with the tables that they leave.
+fn is_folded_again(
+    alloc: Global,
+    other: &Journal,
+    (moves, _audit, value): &Row,
+) -> Result<bool, AllocError> {
+    let journal = folded(alloc, moves, other)?;
+    Ok(is_base(alloc, &journal, 1, *value))
+}
+
+fn is_forgotten(alloc: Global, mut journal: Journal, value: Option<i128>) -> bool {
+    journal.forget(7);
+    is_base(alloc, &journal, 0, value)
+}
+
+fn is_folded(alloc: Global, journal: &Journal, row: &Row) -> Result<bool, AllocError> {
+    let (moves, audit, value) = row;
+    let folded = folded(alloc, moves, journal)?;
+    let is_base = is_base(alloc, &folded, 1, *value);
+    let is_audited = is_audited(alloc, journal, &folded, *audit) == Ok(true);
+    let is_same = is_folded_again(alloc, &folded, row) == Ok(true);
+    let is_forgotten = is_forgotten(alloc, folded, *value);
+    Ok(is_base && is_audited && is_same && is_forgotten)
+}
+
+fn is_right(alloc: Global, row: &Row) -> Result<bool, AllocError> {
+    let journal = filled(alloc, row.0)?;
+    let is_full = journal.full() && journal.len() == 3 && journal.entry(2).is_some();
+    Ok(is_full && is_folded(alloc, &journal, row) == Ok(true))
 }
 
 #[test]
 fn entries_are_audited_and_folded(rt: HostRuntime) {
-    for (line, (moves, audit, value)) in COMMITS.iter().enumerate() {
-        let right = is_right(rt.alloc(), moves, *audit, *value);
-        assert!(rt; right == Ok(true), "line {line}");
+    for (line, row) in COMMITS.iter().enumerate() {
+        assert!(rt; is_right(rt.alloc(), row) == Ok(true), "line {line}");
     }
 }
 
-#[test]
-fn a_full_journal_hands_back(rt: HostRuntime) {
-    let mut journal = filled(rt.alloc(), &[]).expect(&rt, "memory");
-    let entry = commit(rt.alloc(), &[]).expect(&rt, "memory");
-    assert!(rt; journal.try_push(entry).is_err() && journal.len() == 3);
+/// An entry with a list of so many elements.
+enum Long {
+    /// Begins of child levels.
+    Levels(usize),
+    /// Empty lists in the record that is written.
+    Row(usize),
+    /// Empty lists in the record that a reply refuses.
+    Reply(usize),
+    /// Empty lists as the options of a table.
+    Options(usize),
+    /// So many entries of a table without options.
+    Tables(usize),
 }
 
-/// Commands on a table, then commits of these numbers of moves, in a journal that has room for more entries. Then the
-/// number of entries that it folds until it is no longer full.
-static WEIGHTS: [(usize, &[usize], usize); 7] = [
-    (0, &[], 0),
-    (0, &[131_071], 0),
-    (0, &[65_535, 65_536], 0),
-    (0, &[65_536, 65_536], 1),
-    (0, &[1, 200_000], 2),
-    (65, &[], 0),
-    (66, &[], 1),
+/// Such entries, and the number of them that a journal folds until it is no longer full, by the weight of their lists or by
+/// their bytes. A term has 32 bytes, and the text of the table's name one more.
+static LONG: [(&[Long], usize); 16] = [
+    (&[], 0),
+    (&[Long::Levels(131_071)], 0),
+    (&[Long::Levels(65_535), Long::Levels(65_536)], 0),
+    (&[Long::Levels(65_536), Long::Levels(65_536)], 1),
+    (&[Long::Levels(1), Long::Levels(200_000)], 2),
+    (&[Long::Tables(65)], 0),
+    (&[Long::Tables(66)], 1),
+    (&[Long::Row(995)], 0),
+    (&[Long::Row(996)], 1),
+    (&[Long::Reply(995)], 0),
+    (&[Long::Reply(996)], 1),
+    (&[Long::Options(999)], 0),
+    (&[Long::Options(1000)], 1),
+    (&[Long::Row(490), Long::Row(501)], 0),
+    (&[Long::Row(490), Long::Reply(502)], 1),
+    (&[Long::Row(1), Long::Row(5000)], 2),
 ];
 
 /// A commit of so many begins of child levels.
@@ -278,83 +341,6 @@ fn long_commit(alloc: Global, count: usize) -> Result<Entry, AllocError> {
         overflowed: none(alloc),
     })
 }
-
-/// Pushes the command that creates table t `count` times.
-fn push_commands(alloc: Global, journal: &mut Journal, count: usize) -> Result<(), AllocError> {
-    for _command in 0..count {
-        let create = Schema::Create(atom(alloc, "t")?, Terms::from_vec(Vec::new(alloc)));
-        journal
-            .try_push(Entry::Changed(create, none(alloc)))
-            .or(Err(AllocError))?;
-    }
-    Ok(())
-}
-
-/// Returns whether it folds `wanted` entries, and refuses an entry before if it has to fold any.
-fn folds_until_room(
-    alloc: Global,
-    mut journal: Journal,
-    wanted: usize,
-) -> Result<bool, AllocError> {
-    let handed_back = journal.full() && journal.try_push(long_commit(alloc, 1)?).is_err();
-    let other = Journal::with_limit(alloc, 1, 1)?;
-    let entries = journal.len();
-    for _entry in 0..entries {
-        if journal.full() && !journal.is_empty() {
-            journal.fold_oldest(alloc, true, other.base().tables())?;
-        }
-    }
-    let folds = entries.saturating_sub(journal.len());
-    Ok(handed_back == (wanted > 0) && folds == wanted && !journal.full())
-}
-
-fn weight_folds(
-    alloc: Global,
-    commands: usize,
-    counts: &[usize],
-    wanted: usize,
-) -> Result<bool, AllocError> {
-    let mut journal = Journal::with_limit(alloc, 200, MOST_BYTES)?;
-    push_commands(alloc, &mut journal, commands)?;
-    for &count in counts {
-        journal
-            .try_push(long_commit(alloc, count)?)
-            .or(Err(AllocError))?;
-    }
-    folds_until_room(alloc, journal, wanted)
-}
-
-#[test]
-fn weight_fills_a_journal(rt: HostRuntime) {
-    for (line, (commands, counts, wanted)) in WEIGHTS.iter().enumerate() {
-        let right = weight_folds(rt.alloc(), *commands, counts, *wanted);
-        assert!(rt; right == Ok(true), "line {line}");
-    }
-}
-
-/// An entry with a list of so many empty lists.
-enum Long {
-    /// In the record that is written.
-    Row(usize),
-    /// In the record that a reply refuses.
-    Reply(usize),
-    /// The options of a table.
-    Options(usize),
-}
-
-/// Such entries, and the number of them that a journal folds until it is no longer full. A term has 32 bytes, and the
-/// text of the table's name one more.
-static BYTES: [(&[Long], usize); 9] = [
-    (&[Long::Row(995)], 0),
-    (&[Long::Row(996)], 1),
-    (&[Long::Reply(995)], 0),
-    (&[Long::Reply(996)], 1),
-    (&[Long::Options(999)], 0),
-    (&[Long::Options(1000)], 1),
-    (&[Long::Row(490), Long::Row(501)], 0),
-    (&[Long::Row(490), Long::Reply(502)], 1),
-    (&[Long::Row(1), Long::Row(5000)], 2),
-];
 
 fn empty_lists(alloc: Global, count: usize) -> Result<Terms, AllocError> {
     let mut lists = Vec::new(alloc);
@@ -390,40 +376,95 @@ fn commit_of(
     })
 }
 
-fn long_entry(alloc: Global, long: &Long) -> Result<Entry, AllocError> {
+fn long_write(alloc: Global, count: usize) -> Result<Entry, AllocError> {
+    let step = do_of(alloc, Operation::Write(long_record(alloc, count)?))?;
+    commit_of(alloc, Some(step), Some(logged(alloc, Reply::Done)?))
+}
+
+fn long_reply(alloc: Global, count: usize) -> Result<Entry, AllocError> {
+    let refused = Reply::BadType(atom(alloc, "t")?, long_record(alloc, count)?);
+    commit_of(alloc, None, Some(logged(alloc, refused)?))
+}
+
+fn push_tables(alloc: Global, journal: &mut Journal, count: usize) -> Result<(), AllocError> {
+    for _table in 0..count {
+        push(journal, created(alloc, Terms::from_vec(Vec::new(alloc)))?)?;
+    }
+    Ok(())
+}
+
+fn push_long(alloc: Global, journal: &mut Journal, long: &Long) -> Result<(), AllocError> {
     match long {
-        Long::Row(count) => {
-            let write = Operation::Write(long_record(alloc, *count)?);
-            let step = do_of(alloc, write)?;
-            commit_of(alloc, Some(step), Some(logged(alloc, Reply::Done)?))
-        }
-        Long::Reply(count) => {
-            let refused = Reply::BadType(atom(alloc, "t")?, long_record(alloc, *count)?);
-            let reply = logged(alloc, refused)?;
-            commit_of(alloc, None, Some(reply))
-        }
-        Long::Options(count) => {
-            let options = empty_lists(alloc, *count)?;
-            let create = Schema::Create(atom(alloc, "t")?, options);
-            Ok(Entry::Changed(create, none(alloc)))
-        }
+        Long::Levels(count) => push(journal, long_commit(alloc, *count)?),
+        Long::Row(count) => push(journal, long_write(alloc, *count)?),
+        Long::Reply(count) => push(journal, long_reply(alloc, *count)?),
+        Long::Options(count) => push(journal, created(alloc, empty_lists(alloc, *count)?)?),
+        Long::Tables(count) => push_tables(alloc, journal, *count),
     }
 }
 
-fn bytes_fold(alloc: Global, entries: &[Long], wanted: usize) -> Result<bool, AllocError> {
-    let mut journal = Journal::with_limit(alloc, 200, MOST_BYTES)?;
-    for long in entries {
-        journal
-            .try_push(long_entry(alloc, long)?)
-            .or(Err(AllocError))?;
-    }
-    folds_until_room(alloc, journal, wanted)
+fn hands_back(alloc: Global, journal: &mut Journal) -> Result<bool, AllocError> {
+    let entry = long_commit(alloc, 1)?;
+    Ok(journal.try_push(entry).is_err())
 }
 
 #[test]
-fn bytes_fill_a_journal(rt: HostRuntime) {
-    for (line, (entries, wanted)) in BYTES.iter().enumerate() {
-        let right = bytes_fold(rt.alloc(), entries, *wanted);
+fn a_full_journal_hands_back(rt: HostRuntime) -> Result<(), Fail> {
+    let mut journal = filled(rt.alloc(), &[])?;
+    let handed_back = hands_back(rt.alloc(), &mut journal) == Ok(true);
+    assert!(rt; handed_back && journal.len() == 3);
+    Ok(())
+}
+
+/// Folds until the journal is no longer full, with the tables of another journal's base.
+fn fold_until_room(
+    alloc: Global,
+    journal: &mut Journal,
+    other: &Journal,
+) -> Result<(), AllocError> {
+    let tables = other.base().tables();
+    for _entry in 0..journal.len() {
+        if journal.full() && !journal.is_empty() {
+            journal.fold_oldest(alloc, true, tables)?;
+        }
+    }
+    Ok(())
+}
+
+/// Returns whether it folds `wanted` entries, and refuses an entry before if it has to fold any.
+fn folds(
+    alloc: Global,
+    journal: &mut Journal,
+    other: &Journal,
+    wanted: usize,
+) -> Result<bool, AllocError> {
+    let handed_back = journal.full() && hands_back(alloc, journal)?;
+    let entries = journal.len();
+    fold_until_room(alloc, journal, other)?;
+    let is_right = entries.saturating_sub(journal.len()) == wanted && !journal.full();
+    Ok(is_right && handed_back == (wanted > 0))
+}
+
+fn push_all(alloc: Global, journal: &mut Journal, entries: &[Long]) -> Result<(), AllocError> {
+    for long in entries {
+        push_long(alloc, journal, long)?;
+    }
+    Ok(())
+}
+
+/// Returns whether a journal that has room for more entries folds `wanted` of these.
+fn long_fold(alloc: Global, entries: &[Long], wanted: usize) -> Result<bool, AllocError> {
+    let other = Journal::with_limit(alloc, 1, 1)?;
+    let mut journal = Journal::with_limit(alloc, 200, MOST_BYTES)?;
+    let pushed = push_all(alloc, &mut journal, entries);
+    let folded = folds(alloc, &mut journal, &other, wanted);
+    Ok(pushed.is_ok() && folded == Ok(true))
+}
+
+#[test]
+fn long_entries_fill_a_journal(rt: HostRuntime) {
+    for (line, (entries, wanted)) in LONG.iter().enumerate() {
+        let right = long_fold(rt.alloc(), entries, *wanted);
         assert!(rt; right == Ok(true), "line {line}");
     }
 }

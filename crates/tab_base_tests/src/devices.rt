@@ -1,5 +1,5 @@
 //! Devices that fail under a replay.
-use std::test::Fail;
+use std::alloc::Global;
 use tab_etf::Counted;
 use tab_session::{Ended, replay};
 use tab_test_tools::Device;
@@ -16,33 +16,32 @@ const READS: u32 = 17;
 
 const WRITES: u32 = 33;
 
+/// Returns whether a run with devices that fail after so many calls writes all, or a beginning if it fails.
+fn is_right(alloc: Global, reads: u32, writes: u32) -> bool {
+    let mut reader = Counted::new(Device {
+        inner: INPUT,
+        size: 8,
+        left: reads,
+    });
+    let mut writer = Counted::new(Device {
+        inner: Vec::new(alloc),
+        size: 8,
+        left: writes,
+    });
+    let ended = replay(alloc, &mut reader, &mut writer, 64);
+    let written = writer.into_inner().inner;
+    if reads < READS || writes < WRITES {
+        ended == Err(Ended::Device) && OUTPUT.starts_with(written.as_slice())
+    } else {
+        ended == Ok(()) && written.as_slice() == OUTPUT
+    }
+}
+
 /// The call after so many fails, of the reader in the one run and of the writer in the other; a run that makes no more calls is whole.
 #[test]
-fn a_device_fails_at_each_call(rt: HostRuntime) -> Result<(), Fail> {
+fn a_device_fails_at_each_call(rt: HostRuntime) {
     for left in 0..=WRITES {
-        for (reads, writes, fails) in [
-            (left, u32::MAX, left < READS),
-            (u32::MAX, left, left < WRITES),
-        ] {
-            let mut reader = Counted::new(Device {
-                inner: INPUT,
-                size: 8,
-                left: reads,
-            });
-            let mut writer = Counted::new(Device {
-                inner: Vec::new(rt.alloc()),
-                size: 8,
-                left: writes,
-            });
-            let ended = replay(rt.alloc(), &mut reader, &mut writer, 64);
-            let written = writer.into_inner().inner;
-            let right = if fails {
-                ended == Err(Ended::Device) && OUTPUT.starts_with(written.as_slice())
-            } else {
-                ended == Ok(()) && written.as_slice() == OUTPUT
-            };
-            assert!(rt; right, "call {left}");
-        }
+        assert!(rt; is_right(rt.alloc(), left, u32::MAX), "read {left}");
+        assert!(rt; is_right(rt.alloc(), u32::MAX, left), "write {left}");
     }
-    Ok(())
 }
