@@ -166,7 +166,7 @@ def own_writes(server: Server, client: Connection) -> Work:
 
 def long_writes(server: Server, client: Connection) -> Work:
     """A record whose list has many elements, which the journal counts when it takes it and when it folds it."""
-    request = ("transaction", [("write", ("t", next(OWN), [[]] * ELEMENTS))], 0)
+    request: Term = ("transaction", [("write", ("t", next(OWN), [[]] * ELEMENTS))], 0)
     return lambda: ask_long(client, request, size_of(("atomic", [OK])))
 
 
