@@ -99,7 +99,8 @@ class Case:
     def run(self, serve: Callable[..., RefusedServer], nth: int) -> str:
         with serve("--connections", "3", *self.words) as server:
             first, second, other = connections = [server.connect() for _ in range(3)]
-            script(*((other, create, ATOMIC) for create in CREATES), (first, "commit", ("error", "no_transaction")))
+            # Each has been answered: no thread of theirs is still to be made.
+            script(*((other, create, ATOMIC) for create in CREATES), *((one, "commit", ("error", "no_transaction")) for one in (first, second)))
             script(*((connections[who - 1], request, reply) for who, request, reply in self.before))
             if (1, watch(), HERE_OK) in self.before:
                 same("begin marker", first.event(), MARK)
