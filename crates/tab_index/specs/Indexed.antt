@@ -27,6 +27,12 @@ pub record IsPlace (indexes : List Index) (p n : ℕ) : Type 0 where
   pub within : n ≤ length indexes
   pub added : add_number p (positions indexes) ≡ positions (take n indexes) ++ p ∷ positions (drop n indexes)
 
+-- what a table keeps without its indexes
+pub record IsBare (def : TableDef) (rows : Kind × Rows) : Type 0 where
+  pub kind : rows.0 ≡ def.kind
+  pub ordered : is_ordered rows.1 ≡ true
+  pub apart : AreApart rows.1
+
 -- what a table keeps
 pub record IsIndexed (def : TableDef) (rows : Kind × Rows) (indexes : List Index) : Type 0 where
   pub kind : rows.0 ≡ def.kind

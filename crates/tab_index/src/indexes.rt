@@ -8,6 +8,7 @@ ghost use Rattle.tab_index.specs.Indexed.{positions, AreIndexesOf, IsPlace};
 use crate::index::Index;
 use std::alloc::{AllocError, Global};
 use tab_model::Numbers;
+use tab_rows::Rows;
 
 /// An index without a record for each of these positions.
 pub fn empty_indexes(alloc: Global, numbers: &Numbers) -> Result<Vec<Index>, AllocError>
@@ -17,6 +18,18 @@ pub fn empty_indexes(alloc: Global, numbers: &Numbers) -> Result<Vec<Index>, All
     let mut indexes = Vec::with_capacity(alloc, numbers.items.len())?;
     for position in &numbers.items {
         indexes.push(Index::new(*position))?;
+    }
+    Ok(indexes)
+}
+
+/// An index of these records for each of these positions, each in one sort.
+pub fn indexes_of(alloc: Global, numbers: &Numbers, rows: &Rows) -> Result<Vec<Index>, AllocError>
+    ensures positions { IfOk result (λ indexes. positions indexes.items ≡ numbers.now) }
+    ensures indexes { IfOk result (λ indexes. AreIndexesOf rows.now.1 indexes.items) }
+{
+    let mut indexes = Vec::with_capacity(alloc, numbers.items.len())?;
+    for position in &numbers.items {
+        indexes.push(Index::of(alloc, *position, rows)?)?;
     }
     Ok(indexes)
 }

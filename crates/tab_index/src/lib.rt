@@ -5,6 +5,7 @@
 
 #![tactic(auto)]
 
+mod bare;
 mod building;
 mod element;
 mod further;
@@ -14,5 +15,6 @@ mod matching;
 mod querying;
 mod table;
 
+pub use bare::BareTable;
 pub use matching::{bound_key, fits};
 pub use table::IndexedTable;

@@ -11,10 +11,12 @@ ghost use Rattle.tab_rows.specs.Joined.{joined, IsInOrder};
 ghost use Rattle.tab_map.specs.KeyList.{KeysAscend};
 ghost use Rattle.tab_index.specs.FurtherOf.{AreApart};
 ghost use Rattle.tab_index.specs.IndexOf.{AreKeysWith, IsIndexOf};
-ghost use Rattle.tab_index.specs.Indexed.{positions, AreIndexesOf};
+ghost use Rattle.tab_index.specs.Indexed.{positions, AreIndexesOf, IsBare};
 
 use crate::index::Index;
-use crate::indexes::{empty_indexes, new_place, other_indexes, positions_of, shared_indexes};
+use crate::indexes::{
+    empty_indexes, indexes_of, new_place, other_indexes, positions_of, shared_indexes,
+};
 use std::alloc::{AllocError, Global};
 use std::marker::Model;
 use std::slice;
@@ -73,6 +75,19 @@ impl IndexedTable {
             rows,
             indexes,
         })
+    }
+
+    /// The table of this definition with these records. Its indexes are built, each in one sort.
+    pub(crate) fn of(
+        alloc: Global,
+        def: Arc<TableDef, Global>,
+        rows: Rows,
+    ) -> Result<IndexedTable, AllocError>
+        requires { IsBare def.value rows }
+        ensures { IfOk result (λ table. table ≡ record { def = def.value; rows = rows.1 }) }
+    {
+        let indexes = indexes_of(alloc, &def.indexes, &rows)?;
+        Ok(IndexedTable { def, rows, indexes })
     }
 
     /// The same table, in a time that the number of indexes bounds.

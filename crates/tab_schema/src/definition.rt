@@ -4,7 +4,7 @@ ghost use Rattle.std.specs.Prelude.{◌≡◌, ◌||◌, ◌+◌, pos, length, I
 ghost use Rattle.tab_term.specs.Data.{atom as atom_of, int as int_of};
 ghost use Rattle.tab_term.specs.Same.{same};
 ghost use Rattle.tab_term.specs.View.{term};
-ghost use Rattle.tab_model.specs.Definitions.{fits_def, position as position_of, position_from, add_number as plus, has_number, with_indexes};
+ghost use Rattle.tab_model.specs.Definitions.{fits_def, position as position_of, position_from, add_number as plus, less_number, has_number, with_indexes};
 
 use std::alloc::{AllocError, Global};
 use tab_model::{Atoms, Numbers, TableDef};
@@ -87,6 +87,28 @@ pub fn with_positions(
         attributes: Atoms { items: attributes },
         indexes: Numbers { items: positions },
     })
+}
+
+/// The definition with an index at this position too.
+pub fn with_index(alloc: Global, def: &TableDef, position: u64) -> Result<TableDef, AllocError>
+    ensures { IfOk result (λ d. d ≡ with_indexes def.now (plus position def.now.indexes)) }
+{
+    let mut positions = Vec::from_slice(alloc, &def.indexes.items)?;
+    add_number(&mut positions, position)?;
+    with_positions(alloc, def, positions)
+}
+
+/// The definition without an index at this position.
+pub fn without_index(alloc: Global, def: &TableDef, position: u64) -> Result<TableDef, AllocError>
+    ensures { IfOk result (λ d. d ≡ with_indexes def.now (less_number position def.now.indexes)) }
+{
+    let mut positions = Vec::with_capacity(alloc, def.indexes.items.len())?;
+    for other in &def.indexes.items {
+        if *other != position {
+            positions.push(*other)?;
+        }
+    }
+    with_positions(alloc, def, positions)
 }
 
 /// Puts a number into an ascending list, once.

@@ -9,6 +9,6 @@ mod fault;
 mod options;
 mod positions;
 
-pub use definition::{fits, has_index, position, with_positions};
+pub use definition::{fits, has_index, position, with_index, with_positions, without_index};
 pub use fault::DefFault;
 pub use options::{index_fault, parse_options};

@@ -5,7 +5,7 @@ ghost use Rattle.tab_model.specs.Catalogs.{with_rows};
 
 use std::alloc::{AllocError, Global};
 use std::slice;
-use tab_index::IndexedTable;
+use tab_index::{BareTable, IndexedTable};
 use tab_map::{Map, Revise};
 use tab_records::Records;
 use tab_rows::Update;
@@ -28,5 +28,19 @@ impl<'a> Revise<IndexedTable> for Altered<'a> {
 
     fn revised(self, alloc: Global, table: &IndexedTable) -> Result<IndexedTable, AllocError> {
         table.updated(alloc, slice::from_ref(self.update), self.records)
+    }
+}
+
+impl<'a> Revise<BareTable> for Altered<'a> {
+    ghost becomes = { λ a table. with_rows table (apply table.def.kind table.rows a.update.now) };
+
+    fn revise(self, alloc: Global, table: &mut BareTable) -> Result<(), AllocError> {
+        table.change(alloc, self.update, self.records)
+    }
+
+    fn revised(self, alloc: Global, table: &BareTable) -> Result<BareTable, AllocError> {
+        let mut next = table.share()?;
+        next.change(alloc, self.update, self.records)?;
+        Ok(next)
     }
 }

@@ -19,7 +19,7 @@ use tab_term::Atom;
 /// All tables, by name. Sharing them takes constant time.
 #[derive(Drop)]
 pub struct Catalog {
-    by_name: Map<Atom, IndexedTable>,
+    pub(crate) by_name: Map<Atom, IndexedTable>,
 }
 
 impl Model for Catalog {

@@ -6,13 +6,16 @@
 #![tactic(auto)]
 
 mod altered;
+mod bare;
 mod catalog;
 mod changing;
 mod event;
 mod lender;
+mod redefined;
 mod schemas;
 mod tags;
 
+pub use bare::BareCatalog;
 pub use catalog::Catalog;
 pub use changing::Changing;
 pub use lender::Lender;
