@@ -192,10 +192,10 @@ fn filled(alloc: Global, moves: &[Made]) -> Result<Journal, AllocError> {
 
 /// Folds all entries, of which session 7 is joined, with the tables of another journal's base.
 fn fold(alloc: Global, journal: &mut Journal, other: &Journal) -> Result<(), AllocError> {
-    let tables = other.base().tables();
+    let tables = other.base().tables().to_catalog(alloc)?;
     for _entry in 0..3u32 {
         if !journal.is_empty() {
-            journal.fold_oldest(alloc, true, tables)?;
+            journal.fold_oldest(alloc, true, &tables)?;
         }
     }
     Ok(())
@@ -246,8 +246,10 @@ fn is_audited(
     folded: &Journal,
     audit: bool,
 ) -> Result<bool, AllocError> {
-    let found = journal.audit(alloc, journal.base(), folded.base().tables())?;
-    let without = journal.audit(alloc, journal.base(), journal.base().tables())?;
+    let tables = folded.base().tables().to_catalog(alloc)?;
+    let found = journal.audit(alloc, journal.base(), &tables)?;
+    let before = journal.base().tables().to_catalog(alloc)?;
+    let without = journal.audit(alloc, journal.base(), &before)?;
     Ok(found == audit && !without)
 }
 
@@ -422,10 +424,10 @@ fn fold_until_room(
     journal: &mut Journal,
     other: &Journal,
 ) -> Result<(), AllocError> {
-    let tables = other.base().tables();
+    let tables = other.base().tables().to_catalog(alloc)?;
     for _entry in 0..journal.len() {
         if journal.full() && !journal.is_empty() {
-            journal.fold_oldest(alloc, true, tables)?;
+            journal.fold_oldest(alloc, true, &tables)?;
         }
     }
     Ok(())

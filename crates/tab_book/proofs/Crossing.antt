@@ -38,6 +38,8 @@ use Rattle.tab_index.specs.contracts.index.Index as index
 use Rattle.tab_rows.specs.contracts.rows.Rows as rows
 use Rattle.tab_rows.specs.contracts.update.Update as update
 use Rattle.tab_index.specs.contracts.table.IndexedTable as table
+use Rattle.tab_index.specs.contracts.bare.BareTable as bare_table
+use Rattle.tab_tables.specs.contracts.bare.BareCatalog as bare_catalog
 use Rattle.tab_tables.specs.contracts.catalog.Catalog as catalog
 use Rattle.tab_txstore.specs.contracts.levels.TxLevels as levels
 use Rattle.tab_txstore.specs.contracts.store.TxStore as store
@@ -170,6 +172,15 @@ table-sync = search (parts, rows-sync, index-sync, definition_marks.the_send, de
 catalog-send : IsSend catalog.the_row
 catalog-send = search (parts, table-send, table-sync) depth 30
 
+bare_table-send : IsSend bare_table.the_row
+bare_table-send = search (parts, rows-send, definition_marks.the_send, definition_marks.the_sync) depth 30
+
+bare_table-sync : IsSync bare_table.the_row
+bare_table-sync = search (parts, rows-sync, definition_marks.the_send, definition_marks.the_sync) depth 30
+
+bare_catalog-send : IsSend bare_catalog.the_row
+bare_catalog-send = search (parts, bare_table-send, bare_table-sync) depth 30
+
 change-send : IsSend change.the_row
 change-send = search (parts, Term-send) depth 20
 
@@ -222,7 +233,7 @@ request-send : IsSend request.the_row
 request-send = search (parts, operation-send) depth 20
 
 base-send : IsSend base.the_row
-base-send = search (parts, catalog-send, subscription_marks.the_send) depth 30
+base-send = search (parts, bare_catalog-send, subscription_marks.the_send) depth 30
 
 journal-send : IsSend journal.the_row
 journal-send = search (parts, base-send, entry-send, buffer_marks.the_send, frees, heap_send) depth 40

@@ -23,7 +23,7 @@ pub fn is_history(
 ) -> Result<bool, AllocError>
     ensures { IfOk result (λ is. Decides is (IsHistory base.now entries.now.items tables.now)) }
 {
-    let mut now = base.tables().share()?;
+    let mut now = base.tables().to_catalog(alloc)?;
     let mut commits = base.commits();
     for entry in entries.iter() {
         let Some(next) = enter(alloc, &now, commits, entry)? else {

@@ -1,21 +1,21 @@
 //! What a journal starts from.
 
-ghost use Rattle.std.specs.Prelude.{◌≡◌, IfOk, OnOk, OnErr};
-ghost use Rattle.tab_model.specs.declared.data.Schema.{Schema as SchemaOf};
-ghost use Rattle.tab_model.specs.History.{empty as empty_base, after_fold, without_subscriber, number_after as number_after_entry, after_schema};
+ghost use Rattle.std.specs.Prelude.{◌≡◌, OnOk, OnErr};
+ghost use Rattle.tab_model.specs.History.{empty as empty_base, after_fold, without_subscriber, number_after as number_after_entry};
 ghost use Rattle.tab_model.specs.Catalogs.{IsOrderedCatalog};
 
 use crate::subscriptions::{Subscription, forget, keep, removed, subscribe, unsubscribe};
 use crate::survivors::surviving;
 use std::alloc::{AllocError, Global};
 use std::marker::Model;
-use tab_model::{Entry, Schema};
-use tab_tables::{Catalog, Lender, Redefined, redefine};
+use tab_model::Entry;
+use tab_tables::{BareCatalog, Catalog, Lender};
 
-/// The tables, the last commit's number, and the joined sessions' subscriptions, as they were before the first entry.
+/// The tables, the last commit's number, and the joined sessions' subscriptions, as they were before the first entry. The
+/// tables have no indexes, since a fold would build them in another session's step, and only an audit reads them.
 #[derive(Drop)]
 pub struct Base {
-    tables: Catalog,
+    tables: BareCatalog,
     commits: u64,
     subscriptions: Vec<Subscription>,
 }
@@ -43,14 +43,14 @@ impl Base {
         ensures { result ≡ empty_base }
     {
         Base {
-            tables: Catalog::empty(),
+            tables: BareCatalog::empty(),
             commits: 0,
             subscriptions: Vec::new(alloc),
         }
     }
 
     /// The tables that the first entry starts from.
-    pub fn tables(&self) -> &Catalog
+    pub fn tables(&self) -> &BareCatalog
         ensures tables { result.now ≡ self.now.tables }
         ensures ordered { IsOrderedCatalog self.now.tables }
     {
@@ -99,7 +99,7 @@ impl Base {
                 self.commits = *number;
             }
             Entry::Changed(command, overflowed) => {
-                self.tables = redefined(alloc, &self.tables, command)?;
+                self.tables = self.tables.redefined(alloc, command)?;
                 let gone = removed(command);
                 keep(&mut self.subscriptions, overflowed.items.as_slice(), gone);
             }
@@ -137,14 +137,5 @@ pub fn number_after(commits: u64, entry: &Entry) -> u64
         Entry::Changed(_, _) => commits,
         Entry::Subscribed { .. } => commits,
         Entry::Unsubscribed(_, _) => commits,
-    }
-}
-
-fn redefined(alloc: Global, tables: &Catalog, command: &Schema) -> Result<Catalog, AllocError>
-    ensures { IfOk result (λ catalog. catalog ≡ after_schema tables.now command.now) }
-{
-    match redefine(alloc, tables, command)? {
-        Redefined::Done(catalog) => Ok(catalog),
-        Redefined::Refused(_reply) => tables.share(),
     }
 }

@@ -19,8 +19,8 @@ use tab_tables::Catalog;
 /// and its reply, which is many times what a client has to send for it.
 const FULL_WEIGHT: usize = 131_072;
 
-/// The weight of a command on a table: as much as a transaction of most moves. So by weight the step after one folds at most
-/// one command, since to fold it may build an index. By bytes it may fold several.
+/// The weight of a command on a table: as much as a transaction of most moves, since it keeps its options. So by weight a step
+/// folds at most one command. By bytes it may fold several.
 const COMMAND_WEIGHT: usize = 2_000;
 
 /// The entries that are not folded yet, oldest first, with their weight, their bytes and their base.
