@@ -1,8 +1,8 @@
 //! Events as they are told, given by their parts.
 
-ghost use Rattle.std.specs.Prelude.{◌≡◌, ◌≤◌, ◌+◌, ◌==◌, ◌++◌, ◌∷◌, [], OnOk, OnErr, IfOk, length, vec_len, vec_capacity, Some, None};
+ghost use Rattle.std.specs.Prelude.{◌≡◌, ◌≤◌, ◌+◌, ◌==◌, ◌++◌, ◌∷◌, [], OnOk, OnErr, IfOk, length, min, vec_len, vec_capacity, Some, None};
 ghost use Rattle.tab_term.specs.Data.{none, count, plain_terms, terms_list};
-ghost use Rattle.tab_lists.specs.EventTerms.{tag_word, event_term, event_terms};
+ghost use Rattle.tab_lists.specs.EventTerms.{tag_word, event_term, event_terms, event_memory, event_memories};
 ghost use Rattle.tab_lists.specs.EventsForms.{events_in};
 ghost use Rattle.tab_lists.specs.declared.events.EventTerm.{EventTerm};
 ghost use Rattle.tab_lists.specs.declared.events.EventsForm.TheVariants as form;
@@ -102,6 +102,14 @@ impl EventTerm {
             detail: Some(Detail { table, old }),
             age,
         }
+    }
+
+    /// The bytes of the event's record or key, as `Term::memory` counts them. The records before are shared with the table.
+    #[tactic(auto, using(crate::proofs::EventsLemmas::event_bytes))]
+    pub fn memory(&self) -> u64
+        ensures { result ≡ min (event_memory (event_term self.now)) u64.MAX }
+    {
+        self.what.memory()
     }
 }
 
@@ -257,6 +265,17 @@ impl EventTerms {
         ensures { result ≡ (count self.now == 0) }
     {
         self.as_slice().is_empty()
+    }
+
+    /// The bytes of the events' records and keys, as `Term::memory` counts them.
+    pub fn memory(&self) -> u64
+        ensures { result ≡ min (event_memories self.now) u64.MAX }
+    {
+        let mut sum: u64 = 0;
+        for event in self.as_slice() {
+            sum = sum.saturating_add(event.event().memory());
+        }
+        sum
     }
 
     /// The events, in their order.

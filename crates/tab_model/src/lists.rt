@@ -1,5 +1,5 @@
 //! Lists that stand inside the data, each seen as a plain list.
-ghost use Rattle.std.specs.Prelude.{◌≡◌, IfOk};
+ghost use Rattle.std.specs.Prelude.{◌≡◌, IfOk, IfSome};
 
 use crate::data::{Move, Part};
 use crate::logged_reply::LoggedReply;
@@ -131,5 +131,13 @@ impl Parts {
         ensures { result.now ≡ self.now }
     {
         self.items.as_slice()
+    }
+
+    /// The parts, if no one else holds them.
+    pub fn into_vec(self) -> Option<Vec<Part>>
+        ensures { IfSome result (λ parts. parts.items ≡ self) }
+    {
+        let Parts { items } = self;
+        Arc::into_inner(items)
     }
 }

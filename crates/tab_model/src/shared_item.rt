@@ -1,6 +1,7 @@
 //! An item of an outbox that stands once for all who are given it.
 
-ghost use Rattle.std.specs.Prelude.{◌≡◌, IfOk};
+ghost use Rattle.std.specs.Prelude.{◌≡◌, IfOk, min};
+ghost use Rattle.tab_model.specs.Bytes.{item_memory};
 
 use crate::data::Item;
 use std::alloc::{AllocError, Global};
@@ -9,7 +10,20 @@ use std::sync::Arc;
 
 /// An item behind a count of those who are given it.
 pub struct SharedItem {
-    held: Arc<Item, Global>,
+    held: Arc<Weighed, Global>,
+}
+
+/// An item and its bytes, which are summed once, however many are given it.
+struct Weighed {
+    item: Item,
+    memory: u64,
+}
+
+impl Drop for Weighed {
+    fn drop(self) {
+        let Weighed { item, memory: _ } = self;
+        drop(item);
+    }
 }
 
 // A derived drop would be taken apart, field by field, at each exit of each function that holds one of these.
@@ -21,15 +35,19 @@ impl Drop for SharedItem {
 }
 
 impl Model for SharedItem {
+    ghost use Rattle.std.specs.Prelude.{◌≡◌, ◌-◌, ◌^◌, min};
     ghost use Rattle.std.specs.Coded.{codes};
     ghost use Rattle.tab_term.specs.Code.{term_code, terms_code, pairs_code};
     ghost use Rattle.tab_model.specs.declared.data.Item.{Item};
+    ghost use Rattle.tab_model.specs.Bytes.{item_memory};
 
     ghost Value = { Item };
 
     ghost coded = { Prim.hlevel (codes, term_code, terms_code, pairs_code) };
 
-    ghost view = { λ a. a.held.value };
+    ghost view = { λ a. a.held.value.item };
+
+    ghost invariant = { λ a. a.held.value.memory ≡ min (item_memory a.held.value.item) (2 ^ 64 - 1) };
 }
 
 impl SharedItem {
@@ -37,8 +55,9 @@ impl SharedItem {
     pub fn new(alloc: Global, item: Item) -> Result<SharedItem, AllocError>
         ensures { IfOk result (λ x. x ≡ item) }
     {
+        let memory = item.memory();
         Ok(SharedItem {
-            held: Arc::new(alloc, item)?,
+            held: Arc::new(alloc, Weighed { item, memory })?,
         })
     }
 
@@ -55,6 +74,25 @@ impl SharedItem {
     pub fn item(&self) -> &Item
         ensures { result.now ≡ self.now }
     {
-        &self.held
+        &self.held.item
+    }
+
+    /// How many bytes of memory the item takes that no table has; at most `u64::MAX`.
+    pub fn memory(&self) -> u64
+        ensures { result ≡ min (item_memory self.now) u64.MAX }
+    {
+        self.held.memory
+    }
+}
+
+impl Item {
+    /// The bytes of a commit's events. A marker weighs nothing: it shares a dump's records with the table.
+    fn memory(&self) -> u64
+        ensures { result ≡ min (item_memory self.now) u64.MAX }
+    {
+        match self {
+            Item::Batch(_, events) => events.memory(),
+            Item::Began(..) | Item::Ended(..) => 0,
+        }
     }
 }

@@ -54,7 +54,7 @@ one_item_sync = search (sendable, as_row_sync, declared_sync, variants_sync, ato
 
 -- the count of who is given an item may be raised and lowered by each thread
 item_send : IsSend shared_item.the_row
-item_send = search (sendable, Arc-send, declared_send, as_row_send, one_item_send, one_item_sync) depth 20
+item_send = search (sendable, Arc-send, declared_send, declared_sync, as_row_send, as_row_sync, one_item_send, one_item_sync) depth 20
 
 pass_send : IsSend (seat.the_row (badge.the_row (key.the_row shared_item.the_row)) (doing.the_row shared_item.the_row pass_view.the_row))
 pass_send = seat_marks.the_send (badge.the_row (key.the_row shared_item.the_row)) (doing.the_row shared_item.the_row pass_view.the_row) (badge_marks.the_send (key.the_row shared_item.the_row))

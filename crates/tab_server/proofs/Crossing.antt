@@ -63,7 +63,7 @@ one_item-sync : IsSync item.the_row
 one_item-sync = search (sendable, as_row_sync, variants_sync, atom_marks.the_sync, level_marks.the_sync, ending_marks.the_sync, option_marks.the_sync, SharedTerms-sync, EventTerms-sync) depth 20
 
 item-send : IsSend shared_item.the_row
-item-send = search (sendable, Arc-send, declared_send, as_row_send, one_item-send, one_item-sync) depth 20
+item-send = search (sendable, Arc-send, declared_send, declared_sync, as_row_send, as_row_sync, one_item-send, one_item-sync) depth 20
 
 ruleset simple_send = (sendable, crosses, declared_send, as_row_send)
 
