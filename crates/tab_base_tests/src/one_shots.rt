@@ -488,7 +488,8 @@ fn is_right(alloc: Global, case: &Case) -> Result<bool, AllocError> {
         differs: false,
     };
     let parts = parts_of(alloc, case.list.as_bytes())?;
-    let reply = one_shot(&mut slot, alloc, Command::OneShot(parts, case.retries));
+    let command = Command::OneShot(parts, case.retries);
+    let reply = one_shot(&mut slot, alloc, &command);
     let mut frame = Vec::new(alloc);
     let is_put = append_reply(None, reply.reply(), &mut frame).is_ok();
     // After the length, 131, and `{reply, ..`.

@@ -17,15 +17,15 @@ use tab_model::{Command, Part, Parts, Reply, SharedReply};
 ///
 /// It sends the whole command first, which opens level 1; then the members of its list, in order, and the commit. If
 /// the session restarts it, it begins again with the first member, at most `Retries` times.
-pub fn one_shot<S: Steps>(steps: &mut S, alloc: Global, command: Command) -> SharedReply
-    requires { IsTrue (is_one_shot command) }
+pub fn one_shot<S: Steps>(steps: &mut S, alloc: Global, command: &Command) -> SharedReply
+    requires { IsTrue (is_one_shot command.now) }
     ensures { (more : List Call) × S.shows steps.old more steps.new
-        × IsOneShot command more result }
+        × IsOneShot command.now more result }
 {
     let Command::OneShot(parts, retries) = command else {
         unreachable!();
     };
-    run(steps, alloc, &parts, retries)
+    run(steps, alloc, parts, *retries)
 }
 
 fn run<S: Steps>(steps: &mut S, alloc: Global, parts: &Parts, retries: u64) -> SharedReply

@@ -1,6 +1,6 @@
 //! The commands of a connection's requests, as steps of its session.
 
-ghost use Rattle.std.specs.Prelude.{◌≡◌, ◌≢◌, [], IfOk, IfSome, IsOk, IsTrue, MatchOption};
+ghost use Rattle.std.specs.Prelude.{◌≡◌, ◌≢◌, [], IfOk, IfSome, IsFalse, IsOk, IsTrue, MatchOption};
 ghost use Rattle.tab_model.specs.declared.ask.Ask.TheVariants.{Retry, Do as DoCommand};
 ghost use Rattle.tab_model.specs.declared.data.Reply.TheVariants as reply;
 ghost use Rattle.tab_model.specs.Outcome.{is_abort};
@@ -56,27 +56,47 @@ impl<'a, H: Host, O: Outlet, G: Gate> Requests<'a, H, O, G> {
     {
         self.behind = self.end_of_wait(next);
         self.aborted = false;
+        if is_one_shot(&command) {
+            let told = self.run(&command);
+            // Before the command is dropped: it may be long, and others wait for the book.
+            self.give_back();
+            return self.unless_aborted(told);
+        }
         let told = self.answer(command);
         self.give_back();
+        self.unless_aborted(told)
+    }
+
+    /// The reply; none for a command whose wait was ended by an abort.
+    fn unless_aborted(&self, told: SharedReply) -> Option<SharedReply>
+        ensures { MatchOption result (told ≡ reply.Waiting) (λ r. r ≡ told) }
+    {
         if self.aborted && matches!(told.reply(), Reply::Waiting) {
             return None;
         }
         Some(told)
     }
 
-    /// Answers a command. A one-shot is run by its driver; any other command is one step, whose answer it waits for. A
-    /// session that is restarted backs off first.
+    /// Runs a one-shot by its driver.
+    fn run(&mut self, command: &Command) -> SharedReply
+        requires { IsTrue (is_one_shot_command command.now) }
+        ensures served { IsServed self.old.seat command.now result }
+        ensures seat { self.new.seat ≡ self.old.seat }
+        ensures sends { Sends O.sent O.broken self.old.answers self.new.answers [] }
+    {
+        let alloc = self.alloc;
+        let told = one_shot(self, alloc, command);
+        self.count_end(told.reply());
+        told
+    }
+
+    /// Makes the step of a command that is no one-shot, and waits for its answer. A session that is restarted backs off first.
     fn answer(&mut self, command: Command) -> SharedReply
+        requires { IsFalse (is_one_shot_command command) }
         ensures served { IsServed self.old.seat command result }
         ensures seat { self.new.seat ≡ self.old.seat }
         ensures sends { Sends O.sent O.broken self.old.answers self.new.answers [] }
     {
-        if is_one_shot(&command) {
-            let alloc = self.alloc;
-            let told = one_shot(self, alloc, command);
-            self.count_end(told.reply());
-            return told;
-        }
         let Ok(told) = self.make(command) else {
             return SharedReply::new(Reply::NoMemory);
         };

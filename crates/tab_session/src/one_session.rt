@@ -68,7 +68,7 @@ pub fn drive(
         × IsOneShot command calls result }
 {
     let mut slot = OneSession { core, session };
-    let reply = one_shot(&mut slot, alloc, command);
+    let reply = one_shot(&mut slot, alloc, &command);
     let OneSession {
         core: _,
         session: _,
