@@ -1,12 +1,14 @@
 #!/usr/bin/env python3
 """How long one client can make another of `tabd serve` wait, with Python's standard library alone.
 
-    waits.py PROGRAM [ROUNDS [CLIENTS]]    as waits.py crates/tabd/out/tabd 3 16
+    waits.py PROGRAM [ROUNDS [CLIENTS [WORDS]]]    as waits.py crates/tabd/out/tabd 3 16 'index deletions'
 
 Each row has a server of its own. While one client does what the row names, so many times (3), another process reads one record of another
 table, again and again, in a one-shot each. The row has how often it read, and of its reads the median and the longest, in milliseconds: with
 nothing beside first, which is what the machine and the client take. The longest is that of all rounds, so other work on the machine moves it.
-Where more CLIENTS than one are given, so many ask at once, and only the rows whose request each of them can make stand there.
+Where more CLIENTS than one are given, so many ask at once, and only the rows whose request each of them can make are printed. Where WORDS are
+given, only the rows that contain one of them are. The last column is the processor time, in milliseconds, that the thread of one client took for
+all that the row names, at most: no hold of the book's mutex is longer.
 """
 
 import itertools
@@ -15,7 +17,7 @@ import os
 import sys
 import time
 from functools import partial
-from typing import Any, Callable, Iterator, List, Tuple
+from typing import Any, Callable, Dict, Iterator, List, Tuple
 
 HERE = os.path.dirname(os.path.abspath(__file__))
 sys.path.insert(0, os.path.join(HERE, ".."))
@@ -30,8 +32,8 @@ Work = Callable[[], object]
 Prepare = Callable[[Server, Connection], Work]
 
 RECORDS, BAGGED, WRITES, DUMPS, READS, FINDS, WATCHERS = 100_000, 6_000, 899, 32, 999, 99, 60
-# The most indexes of a table, the writes to it, and the elements of a record's list that a request has room for.
-INDEXES, WIDE, ELEMENTS = 254, 333, 1_000_000
+# The most indexes of a table, the writes to it, the elements of a record's list that a request has room for, and index entries.
+INDEXES, WIDE, ELEMENTS, ENTRIES = 254, 333, 1_000_000, 200_000
 # As many commands on tables as make a journal full, by two, and transactions behind them.
 PAIRS, FOLDS = 66, 20
 # A read's own record, in a table of its own.
@@ -54,8 +56,19 @@ def read_on(place: Any, ready: Any, done: Any, found: Any) -> None:
     found.put(waited)
 
 
-def beside(server: Server, work: Work) -> List[float]:
-    """How long each read took that was made while this was done."""
+def spent(server: Server) -> Dict[str, float]:
+    """The processor time of each thread of the server, in milliseconds."""
+    folder = f"/proc/{server.process.pid}/task"
+    found = {}
+    for thread in os.listdir(folder):
+        with open(f"{folder}/{thread}/schedstat", encoding="ascii") as file:
+            found[thread] = int(file.read().split()[0]) / 1e6
+    return found
+
+
+def beside(server: Server, work: Work) -> Tuple[List[float], float]:
+    """How long each read took that was made while this was done, and the most processor time that a thread took for it."""
+    before = spent(server)
     ready, done = multiprocessing.Event(), multiprocessing.Event()
     found: "multiprocessing.Queue[List[float]]" = multiprocessing.Queue()
     reader = multiprocessing.Process(target=read_on, args=(server.place, ready, done, found))
@@ -65,9 +78,10 @@ def beside(server: Server, work: Work) -> List[float]:
         work()
     finally:
         done.set()
+    after = spent(server)
     waited = found.get()
     reader.join()
-    return waited
+    return waited, max(after[thread] - time for thread, time in before.items() if thread in after)
 
 
 def nothing(server: Server, client: Connection) -> Work:
@@ -183,6 +197,27 @@ def wide_writes(server: Server, client: Connection) -> Work:
     return work
 
 
+def indexed_deletions(server: Server, client: Connection) -> Work:
+    """Deletions at one key of a bag of its own with an index, where many records have one value."""
+    name, first = f"indexed{next(OWN)}", itertools.count()
+    script((client, ("create_table", name, [("type", "bag"), ("attributes", ["key", "val", "other"]), ("index", ["val"])]), ATOMIC))
+    fill(client, lambda number: (name, 0, number % 2, number), RECORDS, 900)
+
+    def work() -> None:
+        records = [(name, 0, number % 2, number) for number in itertools.islice(first, READS)]
+        ask_long(client, ("transaction", [("delete_object", record) for record in records], 0), size_of(("atomic", [OK] * READS)))
+
+    return work
+
+
+def refused_table(server: Server, client: Connection) -> Work:
+    """A table whose last index entry, of many, is of no attribute."""
+    attributes = [f"b{at}" for at in range(INDEXES)]
+    options: Term = [("attributes", attributes + ["z"]), ("index", ["z"] * ENTRIES + ["nosuch"])]
+    request: Term = ("create_table", "refused", options)
+    return lambda: ask_long(client, request, size_of(("aborted", ("bad_def", "refused", ("index", "nosuch")))))
+
+
 def index_again(client: Connection, name: str) -> None:
     """An index is added to a table and taken away."""
     script((client, ("add_table_index", name, "val"), ATOMIC), (client, ("del_table_index", name, "val"), ATOMIC))
@@ -240,6 +275,8 @@ def rows(count: int) -> Iterator[Tuple[str, Callable[[Connection], None], Prepar
     yield f"a one-shot of {READS} writes, {RECORDS} records", small, own_writes
     yield f"a write of a list of {ELEMENTS} empty lists", one, long_writes
     yield f"a one-shot of {WIDE} writes to a table of its own with {INDEXES} indexes", one, wide_writes
+    yield f"a one-shot of {READS} deletions at a key of {RECORDS} records, of a bag of its own with an index", one, indexed_deletions
+    yield f"a table with {ENTRIES} index entries is refused", one, refused_table
     yield f"an index is added and taken away, of a table of {RECORDS} records", one, own_index
     yield (f"a one-shot of {finds} match_object that find half, {RECORDS} records", table(lambda key: mixed[key], RECORDS, 500),
            asks(("transaction", [half] * finds, 0), size_of(("atomic", [mixed[::2]] * finds))))
@@ -254,21 +291,27 @@ def rows(count: int) -> Iterator[Tuple[str, Callable[[Connection], None], Prepar
 
 
 def main() -> None:
-    if len(sys.argv) not in (2, 3, 4):
+    if len(sys.argv) not in (2, 3, 4, 5):
         sys.exit(__doc__)
-    rounds, count = [int(word) for word in sys.argv[2:]] + [3, 1][len(sys.argv) - 2 :]
-    print("what | reads | median | longest")
+    rounds, count = [int(word) for word in sys.argv[2:4]] + [3, 1][len(sys.argv[2:4]) :]
+    words = sys.argv[4].split() if len(sys.argv) > 4 else [""]
+    print("what | reads | median | longest | processor")
     for what, make, prepare in rows(count):
+        if not any(word in what for word in words):
+            continue
         waited: List[float] = []
+        most = 0.0
         with Held(os.path.abspath(sys.argv[1])) as server:
             client = server.connect()
             client.socket.settimeout(PATIENCE)
             script((client, ("create_table", "other", []), ATOMIC), (client, ("transaction", [("write", ("other", 1, 1))], 0), ("atomic", [OK])))
             make(client)
+            work = at_once(server, client, prepare, count)
             for _ in range(rounds):
-                waited += beside(server, at_once(server, client, prepare, count))
+                longer, took = beside(server, work)
+                waited, most = waited + longer, max(most, took)
         waited.sort()
-        print(f"{what} | {len(waited)} | {waited[len(waited) // 2] * 1000:.2f} | {waited[-1] * 1000:.1f}", flush=True)
+        print(f"{what} | {len(waited)} | {waited[len(waited) // 2] * 1000:.2f} | {waited[-1] * 1000:.1f} | {most:.1f}", flush=True)
 
 
 if __name__ == "__main__":
