@@ -3,6 +3,7 @@ ghost use Rattle.std.specs.Prelude.{◌≡◌, IfOk, MatchResult, IsFalse, Some}
 ghost use Rattle.tab_model.specs.declared.data.Reply.TheVariants as reply;
 ghost use Rattle.tab_model.specs.Events.{is_failure as is_failure_of};
 ghost use Rattle.tab_model.specs.LoggedOperations.{operation_in};
+ghost use Rattle.tab_model.specs.Parts.{command_of};
 ghost use Rattle.tab_model.specs.Shared.{is_found};
 
 use crate::lists::{Atoms, Moves, Numbers, Parts, Replies, Sessions};
@@ -236,6 +237,20 @@ impl Operation {
             Operation::Read(name, key) => Ok(OperationForm::Read(name, key)),
             Operation::ReadForWrite(name, key) => Ok(OperationForm::ReadForWrite(name, key)),
             operation => Ok(OperationForm::Other(Arc::new(alloc, operation)?)),
+        }
+    }
+}
+
+impl Part {
+    /// The command that the part is handed in as.
+    pub fn into_command(self) -> Command
+        ensures { result ≡ command_of self }
+    {
+        match self {
+            Part::Do(operation) => Command::Do(operation),
+            Part::Abort(reason) => Command::Abort(reason),
+            Part::Open => Command::Begin,
+            Part::Close => Command::Commit,
         }
     }
 }
