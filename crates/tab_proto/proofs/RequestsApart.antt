@@ -266,6 +266,10 @@ command_back (command.OneShot parts retries) h =
     let q = and_parts (is_nested 0 parts) (list_all is_part parts) p.1 in
     ap (λ ps. command.OneShot ps retries) (parts_back parts q.0)
 
+-- two commands with one term are one
+pub commands_apart : (c d : Command) → is_command c ≡ true → is_command d ≡ true → term_of c ≡ term_of d → c ≡ d
+commands_apart c d h k e = sym (command_back c h) ∙ ap command_of e ∙ command_back d k
+
 -- ---- requests
 
 request_back : (r : Request) → IsRequest r → request_of (asked_term r) ≡ r
