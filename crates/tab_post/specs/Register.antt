@@ -9,6 +9,11 @@ use Rattle.crossbeam_channel.specs.Ends.{sends_on}
 abbrev pub head_of : Book → Named
 head_of b = record { tracked = true; key = 0; book = b }
 
+-- the names of two registers: of mailboxes, and of what a book did
+pub record Books : Type 0 where
+  pub mailboxes : Book
+  pub steps : Book
+
 module _ {E : Type 0} where
   -- the first word is the number of entries
   pub record IsCounted (cells : List Cell) (entries : List E) : Type 0 where

@@ -10,6 +10,7 @@ use crate::naming::Host;
 use crate::post::Channel;
 use crate::prefix::Prefix;
 use crate::rule::{InOrder, PassView, Taken};
+use crate::tally::Tally;
 use crossbeam_channel::{Pass, RuledReceiver};
 use tab_outbox::SharedItem;
 
@@ -21,6 +22,8 @@ pub struct Inbox<H: Host> {
     pub(crate) pass: Pass<SharedItem, PassView>,
     pub(crate) place: u64,
     pub(crate) prefix: Prefix<Channel, H>,
+    /// Of a mailbox with a limit of bytes.
+    pub(crate) tally: Option<Tally>,
     ghost seated: { IsSeatAt (receives_on channel) pass },
     ghost role: { view pass ≡ pass_view false true [] (view pass).taken },
     ghost stands: { IsHeldAt prefix place (receives_on channel) },
@@ -28,7 +31,14 @@ pub struct Inbox<H: Host> {
 
 impl<H: Host> Inbox<H> {
     ghost use Rattle.std.specs.Prelude.{◌∷◌, ◌++◌, MatchOption};
-    ghost use Rattle.tab_post.specs.Ends.{received, IsSameInbox};
+    ghost use Rattle.tab_post.specs.Ends.{mailbox_of, received, IsSameInbox};
+
+    /// The mailbox's index in the register.
+    pub fn place(&self) -> u64
+        ensures { result ≡ mailbox_of self.now }
+    {
+        self.place
+    }
 
     /// Waits for the next item that was sent. None if the post was dropped and nothing is left.
     pub fn receive(&mut self) -> Option<SharedItem>
@@ -36,9 +46,12 @@ impl<H: Host> Inbox<H> {
             (λ x. received self.new ≡ received self.old ++ x ∷ []) }
         ensures stays { IsSameInbox self.old self.new }
     {
-        self.channel
+        let item = self
+            .channel
             .recv_as::<Taken, H>(&self.rt, &mut self.pass)
-            .ok()
+            .ok()?;
+        self.count_one();
+        Some(item)
     }
 
     /// The next item that was sent, if it is there already.
@@ -47,8 +60,18 @@ impl<H: Host> Inbox<H> {
             (λ x. received self.new ≡ received self.old ++ x ∷ []) }
         ensures stays { IsSameInbox self.old self.new }
     {
-        self.channel
+        let item = self
+            .channel
             .try_recv_as::<Taken, H>(&self.rt, &mut self.pass)
-            .ok()
+            .ok()?;
+        self.count_one();
+        Some(item)
+    }
+
+    /// Counts an item that was taken, for the post of a mailbox with a limit of bytes.
+    pub(crate) fn count_one(&self) {
+        if let Some(tally) = &self.tally {
+            tally.add();
+        }
     }
 }

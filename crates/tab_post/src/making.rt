@@ -10,22 +10,23 @@ use crate::naming::Host;
 use crate::post::{Channel, ChannelPost};
 use crate::prefix::Prefix;
 use crate::register::Register;
+use crate::room::Room;
 use std::alloc::{AllocError, Global};
 
-/// A mailbox that holds at most `capacity` items, and its place in the register: its post and its inbox. It has room for all
+/// A mailbox that holds as much as `room` says, and its place in the register: its post and its inbox. It has room for all
 /// that it may hold, so no put takes memory.
 pub fn mailbox<H: Host>(
     rt: H,
     alloc: Global,
     register: &Register<Channel, H>,
     prefix: &mut Prefix<Channel, H>,
-    capacity: usize,
+    room: Room,
 ) -> Result<(ChannelPost<H>, Inbox<H>), AllocError>
-    requires { 0 < capacity }
-    ensures new { IfOk result (λ ends. AreNew capacity ends.0 ends.1) }
+    requires { 0 < room.items }
+    ensures new { IfOk result (λ ends. AreNew room ends.0 ends.1) }
     ensures fresh { IfOk result (λ ends. IsFresh prefix.old prefix.new (mailbox_of ends.1)) }
     ensures err { OnErr result (prefix.new ≡ prefix.old) }
 {
-    let ends = NewMailbox::new(alloc, capacity)?;
+    let ends = NewMailbox::new(alloc, room)?;
     Ok(ends.enter(register, prefix, rt))
 }

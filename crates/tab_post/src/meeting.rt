@@ -40,6 +40,7 @@ impl<H: Host> Mailbox for ChannelPost<H> {
         {
             Ok(item) => {
                 end.pass = self.channel.another::<Ends>(&mut self.pass);
+                end.count_one();
                 Met::Going(item)
             }
             Err(_) => {

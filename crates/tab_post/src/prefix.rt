@@ -1,23 +1,24 @@
 //! Beginnings of a register.
 
 ghost use Rattle.std.specs.Prelude.{◌≡◌, ◌-◌, ◌<◌, ◌^◌, [], ◌∷◌, ◌++◌, length, slice_get, MatchBool};
+ghost use mathlib.Core.List.{IsPrefix};
 ghost use Rattle.tab_post.specs.Register.{IsLonger};
 
 use crate::growth::{Adding, Counted, NoGain};
-use crate::naming::Naming;
+use crate::naming::{Entry, Naming};
 use crate::register::Register;
 use logbook::{Offer, Seen};
 use std::marker::{Model, PhantomData};
 
-/// A beginning of the register that `J` names, which was seen. Contracts see its entries.
+/// A beginning of the register of these entries that `J` names, which was seen. Contracts see its entries.
 #[derive(Drop)]
-pub struct Prefix<E, J: Naming> {
+pub struct Prefix<E: Entry, J: Naming> {
     pub(crate) len: u64,
     pub(crate) seen: Seen<E, u64, Counted>,
     pub(crate) of: PhantomData<J>,
 }
 
-impl<E, J: Naming> Model for Prefix<E, J> {
+impl<E: Entry, J: Naming> Model for Prefix<E, J> {
     ghost use Rattle.std.specs.Prelude.{◌≡◌, List, length};
     ghost use Rattle.std.specs.Coded.{coded_list};
 
@@ -27,11 +28,11 @@ impl<E, J: Naming> Model for Prefix<E, J> {
 
     ghost view = { λ f. f.seen.log };
 
-    ghost invariant = { λ f. (f.len ≡ length f.seen.log) × (f.seen.book ≡ J.book) };
+    ghost invariant = { λ f. (f.len ≡ length f.seen.log) × (f.seen.book ≡ E.book_in J.books) };
 }
 
-impl<E, J: Naming> Prefix<E, J> {
-    /// The number of mailboxes that were seen.
+impl<E: Entry, J: Naming> Prefix<E, J> {
+    /// The number of entries that were seen.
     pub fn len(&self) -> u64
         ensures { result ≡ length self.now }
     {
@@ -56,6 +57,20 @@ impl<E, J: Naming> Prefix<E, J> {
     {
         let mut both = self.seen.again();
         both.learn(&other.seen);
+    }
+
+    /// Becomes the other, if that has seen as much of the register. Returns whether it has.
+    pub fn follow(&mut self, other: &Prefix<E, J>) -> bool
+        ensures follows { MatchBool result
+            (IsPrefix self.old other.now × (self.new ≡ other.now)) (self.new ≡ self.old) }
+    {
+        let mut both = self.seen.again();
+        both.learn(&other.seen);
+        if other.len < self.len {
+            return false;
+        }
+        *self = other.again();
+        true
     }
 
     /// Adds an entry after those that were seen, if the register has no others. Else it has seen more of the register.

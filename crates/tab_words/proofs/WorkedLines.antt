@@ -108,6 +108,22 @@ pub most_bytes : faults (serving ++ codes "--journal-bytes" ∷ codes "429496729
 unfolding clap_on_literals
 most_bytes = refl
 
+pub no_outbox_bytes : faults (serving ++ codes "--outbox-bytes" ∷ codes "0" ∷ []) ≡ ValueValidation ∷ []
+unfolding clap_on_literals
+no_outbox_bytes = refl
+
+pub few_outbox_bytes : faults (serving ++ codes "--outbox-bytes" ∷ codes "1" ∷ []) ≡ []
+unfolding clap_on_literals
+few_outbox_bytes = refl
+
+pub outbox_bytes_left_out : option_in (codes "outbox-bytes") serving ≡ Some None
+unfolding clap_on_literals
+outbox_bytes_left_out = refl
+
+pub replay_has_no_bytes : faults (codes "replay" ∷ codes "--outbox-bytes" ∷ codes "8" ∷ []) ≡ UnknownArgument ∷ []
+unfolding clap_on_literals
+replay_has_no_bytes = refl
+
 pub no_outbox : faults (codes "replay" ∷ codes "--outbox" ∷ codes "0" ∷ []) ≡ ValueValidation ∷ []
 unfolding clap_on_literals
 no_outbox = refl

@@ -48,6 +48,7 @@ is_full Brief = false
 pub record IsServiceOf (rows : List Row) (s : Service) : Type 0 where
   pub connections : IsNumberOf (codes "connections") 1 64 1 rows s.sizes.connections
   pub outbox : IsNumberOf (codes "outbox") 1 65536 64 rows s.sizes.outbox
+  pub outbox_bytes : MayBeNumberOf (codes "outbox-bytes") 1 4294967295 rows s.sizes.outbox_bytes
   pub journal : IsNumberOf (codes "journal") 16 65536 1024 rows s.sizes.journal
   pub journal_bytes : IsNumberOf (codes "journal-bytes") 1048576 4294967295 67108864 rows s.sizes.journal_bytes
   pub forever : IsFlagOf (codes "forever") rows s.forever

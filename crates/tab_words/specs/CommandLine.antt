@@ -36,7 +36,7 @@ abbrev pub serve_line : App
 serve_line = with_rules (new_app (codes "serve"))
     (number_rule (codes "port") 0 65535 ∷ text_rule (codes "socket") ∷ number_rule (codes "connections") 1 64 ∷ outbox_rule ∷ number_rule (codes "journal") 16 65536
     ∷ number_rule (codes "journal-bytes") 1048576 4294967295 ∷ flag_rule (codes "forever") ∷ flag_rule (codes "batches") ∷ number_rule (codes "idle") 1 86400 ∷ flag_rule (codes "log") ∷ number_rule (codes "metrics") 0 65535 ∷ number_rule (codes "slow") 1 86400 ∷ flag_rule (codes "abort-waits") ∷ flag_rule (codes "drain")
-    ∷ number_rule (codes "transaction-limit") 1 86400 ∷ number_rule (codes "idle-sessions") 1 86400 ∷ [])
+    ∷ number_rule (codes "transaction-limit") 1 86400 ∷ number_rule (codes "idle-sessions") 1 86400 ∷ number_rule (codes "outbox-bytes") 1 4294967295 ∷ [])
 
 -- the program with its version, which wants a command
 abbrev pub bare_line : App

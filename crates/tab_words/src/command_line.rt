@@ -38,6 +38,15 @@ fn outbox<'a>(alloc: Global) -> Arg<'a>
     )
 }
 
+fn outbox_bytes<'a>(alloc: Global) -> Arg<'a>
+    ensures rule { rule_of result ≡ number_rule (codes "outbox-bytes") 1 4294967295 }
+    ensures own { IsFalse result.global }
+{
+    number_of(alloc, "outbox-bytes", "BYTES", 1, 4_294_967_295).help(
+        "At how many bytes of events a session's outbox is full too, 1 to 4294967295",
+    )
+}
+
 fn port<'a>(alloc: Global) -> Arg<'a>
     ensures rule { rule_of result ≡ number_rule (codes "port") 0 65535 }
     ensures own { IsFalse result.global }
@@ -208,7 +217,8 @@ pub fn serve<'a>(alloc: Global) -> Result<Command<'a>, AllocError>
         .arg(abort_waits(alloc))?
         .arg(drain(alloc))?
         .arg(transaction_limit(alloc))?
-        .arg(idle_sessions(alloc))
+        .arg(idle_sessions(alloc))?
+        .arg(outbox_bytes(alloc))
 }
 
 fn replay<'a>(alloc: Global) -> Result<Command<'a>, AllocError>

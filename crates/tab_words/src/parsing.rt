@@ -193,6 +193,8 @@ fn sizes(matches: &ArgMatches<'_>) -> Sizes
         (rows_of (found_of matches.now)) result.connections }
     ensures outbox { IsNumberOf (codes "outbox") 1 65536 64
         (rows_of (found_of matches.now)) result.outbox }
+    ensures outbox_bytes { MayBeNumberOf (codes "outbox-bytes") 1 4294967295
+        (rows_of (found_of matches.now)) result.outbox_bytes }
     ensures journal { IsNumberOf (codes "journal") 16 65536 1024
         (rows_of (found_of matches.now)) result.journal }
     ensures journal_bytes { IsNumberOf (codes "journal-bytes") 1048576 4294967295 67108864
@@ -201,6 +203,7 @@ fn sizes(matches: &ArgMatches<'_>) -> Sizes
     Sizes {
         connections: number(matches, "connections", 1, 64, 1),
         outbox: number(matches, "outbox", 1, 65_536, 64),
+        outbox_bytes: outbox_bytes(matches),
         journal: number(matches, "journal", 16, 65_536, 1024),
         journal_bytes: number(
             matches,
@@ -210,6 +213,13 @@ fn sizes(matches: &ArgMatches<'_>) -> Sizes
             67_108_864,
         ),
     }
+}
+
+fn outbox_bytes(matches: &ArgMatches<'_>) -> Option<u32>
+    ensures { MayBeNumberOf (codes "outbox-bytes") 1 4294967295
+        (rows_of (found_of matches.now)) result }
+{
+    matches.get_one("outbox-bytes")
 }
 
 /// The number of an option, which the parser has found in its range, or `fallback` if the option is not given.

@@ -22,12 +22,13 @@ pub enum Log {
     Full,
 }
 
-/// The sizes of a server: the most connections, the most items of a session's mailbox, the most entries of the journal, and
-/// the bytes of requests at which it is full.
+/// The sizes of a server: the most connections, the most items of a session's mailbox, the bytes of events at which it is
+/// full, the most entries of the journal, and the bytes of requests at which it is full.
 #[derive(Clone, Copy)]
 pub struct Sizes {
     pub connections: u32,
     pub outbox: u32,
+    pub outbox_bytes: Option<u32>,
     pub journal: u32,
     pub journal_bytes: u32,
     ghost seats: { connections ≤ 64 },
