@@ -74,6 +74,8 @@ use Rattle.tab_post.proofs.register.Register.TheSendSync as register_marks
 use Rattle.tab_post.proofs.Crossing.{ChannelPost-send}
 use Rattle.tab_post.specs.contracts.post.ChannelPost as channel_post
 use Rattle.tab_post.specs.contracts.post.ChannelPostPost.TheImpl as session_posts
+use Rattle.tab_book.specs.contracts.log.Log as log
+use Rattle.tab_book.specs.contracts.log.Log.TheInside as log_inside
 use Rattle.tab_book.specs.contracts.book.Book as book
 use Rattle.tab_book.specs.contracts.book.Book.TheInside as inside
 use Rattle.tab_book.specs.contracts.shared.Shared as shared
@@ -271,6 +273,12 @@ module _ (P : RattleType) (g : Ghosts P.Denot) where
   core-send p = search (parts, machine-send) depth 30
 
 module _ (H : RattleType) (names : naming.Ghosts H.Denot) (rooms : host.Ghosts H.Denot) (waits : waiting.Ghosts H.Denot) (clones : cloning.Ghosts H.Denot) where
+  log-send : IsSend H → IsSend (log.the_row H names)
+  log-send h =
+      view_send _ _ _ _ _ (
+      declared_send (log_inside.the_type H names) (search parts, (search (parts, register_marks.the_send), (search (parts, prefix_marks.the_send), tt)))
+      )
+
   pub Book-send : IsSend H → IsSend (book.the_row H names rooms waits clones)
   Book-send h =
       let posts = session_posts.ghosts H rooms session_posts.no_dict names session_posts.no_dict waits session_posts.no_dict clones session_posts.no_dict in
@@ -280,10 +288,10 @@ module _ (H : RattleType) (names : naming.Ghosts H.Denot) (rooms : host.Ghosts H
           search parts,
           (
             search (parts, register_marks.the_send),
-            (search (parts, prefix_marks.the_send), (as_row_send (core.the_field (channel_post.the_row H names) posts) (core-send (channel_post.the_row H names) posts (ChannelPost-send H names h)), (search (parts, journal-send) depth 20, tt))),
+            (search (parts, prefix_marks.the_send), (as_row_send (log.the_field H names) (log-send h), (as_row_send (core.the_field (channel_post.the_row H names) posts) (core-send (channel_post.the_row H names) posts (ChannelPost-send H names h)), (search (parts, journal-send) depth 20, tt)))),
           ),
         ),
       ))
 
   pub Shared-sync : IsSend H → IsSync (shared.the_row H names rooms waits clones)
-  Shared-sync h = search (parts, crosses, Book-send) depth 30
+  Shared-sync h = search (parts, crosses, Book-send, prefix_marks.the_sync) depth 30

@@ -1,7 +1,8 @@
 -- What an inbox shows of the post that it meets, and what a Take then tells.
-use Rattle.std.proofs.Common.{◌≡◌, ℕ, List, [], refl, sym, ap, ◌∙◌, subst, Option, Some, None}
+use Rattle.std.proofs.Common.{◌≡◌, ℕ, List, [], ◌∷◌, ◌++◌, refl, sym, ap, ◌∙◌, subst, Option, Some, None}
 use Rattle.std.specs.Prelude.{MatchOption, option_map}
 use Rattle.tab_model.specs.declared.data.Item.{Item}
+use Rattle.tab_model.specs.declared.data.Reply.TheVariants as reply
 use Rattle.tab_model.specs.State.{Outbox, Session, State, session_at}
 use Rattle.tab_model.specs.Standing.{AreChannels}
 use Rattle.tab_model.specs.declared.ask.Ask.TheVariants.{Take}
@@ -13,6 +14,7 @@ use Rattle.tab_outbox.specs.Mailboxes.{Meets}
 use Rattle.tab_journal.specs.Journals.{JournalView}
 use Rattle.tab_book.specs.declared.step.Drained.{Drained}
 use Rattle.tab_book.specs.declared.step.Drained.TheVariants.{Going, AllTaken, Overflow, Left}
+use Rattle.tab_book.specs.Logs.{Made, made}
 use Rattle.tab_book.specs.Running.{Running}
 use Rattle.tab_book.specs.Inboxes.{Drains, TellsOverflow}
 
@@ -64,19 +66,33 @@ takes σ over n s here channels = ap (step_of σ over n Take) here ∙ ap (λ c.
 
 -- ---- what a Take then tells
 
-module _ (σ : State) (j : JournalView) (n : ℕ) (s : Session) (here : session_at σ.sessions n ≡ Some s) (x : Option ℕ) (is : MatchOption (session_at σ.sessions n) (x ≡ None) (λ t. x ≡ t.overflow)) where
+module _ (σ : State) (j : JournalView) (log : List Made) (n : ℕ) (s : Session) (here : session_at σ.sessions n ≡ Some s) (x : Option ℕ) (is : MatchOption (session_at σ.sessions n) (x ≡ None) (λ t. x ≡ t.overflow)) where
   abbrev now : Running
-  now = record { state = σ; journal = j }
+  now = record { state = σ; journal = j; log = log }
 
   -- what the session's overflow was
   overflow_is : x ≡ s.overflow
   overflow_is = subst (λ (o : Option Session). MatchOption o (x ≡ None) (λ t. x ≡ t.overflow)) here is
 
-  pub tells : (over : List ℕ) (o : Outcome) → AreChannels σ → outcome σ over n Take ≡ o → (c : ℕ) → x ≡ Some c → (s : Session) × (session_at σ.sessions n ≡ Some s) × TellsOverflow now n s.overflow (Overflow c) (record { state = o.state; journal = j })
-  tells over o channels took c e = (s, here, subst (λ (l : Option ℕ). TellsOverflow now n l (Overflow c) (record { state = o.state; journal = j })) (sym e ∙ overflow_is) (refl, λ i. record { state = same_state i; journal = j }))
+  pub tells : (over : List ℕ) (o : Outcome) → AreChannels σ → outcome σ over n Take ≡ o → (c : ℕ) → x ≡ Some c → (all : List Made) → all ≡ log ++ made n Take o.reply ∷ []
+      → (s : Session) × (session_at σ.sessions n ≡ Some s) × TellsOverflow now n s.overflow (Overflow c) (record { state = o.state; journal = j; log = all })
+  tells over o channels took c e all logged = (
+    s,
+    here,
+    subst (λ (l : Option ℕ). TellsOverflow now n l (Overflow c) (record { state = o.state; journal = j; log = all })) (sym e ∙ overflow_is) (refl, λ i. record { state = same_state i; journal = j; log = same_log i }),
+  )
     where
+      gives : o ≡ give σ s [] s.overflow
+      gives = sym took ∙ takes σ over n s here channels
+
       same_state : o.state ≡ (outcome σ [] n Take).state
-      same_state = ap (λ (x : Outcome). x.state) (sym took ∙ takes σ over n s here channels ∙ sym (takes σ [] n s here channels))
+      same_state = ap (λ (x : Outcome). x.state) (gives ∙ sym (takes σ [] n s here channels))
+
+      told : o.reply ≡ reply.Overflow c
+      told = ap (λ (x : Outcome). x.reply) (gives ∙ ap (give σ s []) (sym overflow_is ∙ e))
+
+      same_log : all ≡ log ++ made n Take (reply.Overflow c) ∷ []
+      same_log = logged ∙ ap (λ r. log ++ made n Take r ∷ []) told
 
   pub tells_none : x ≡ None → (s : Session) × (session_at σ.sessions n ≡ Some s) × TellsOverflow now n s.overflow AllTaken now
   tells_none e = (s, here, subst (λ (l : Option ℕ). TellsOverflow now n l AllTaken now) (sym e ∙ overflow_is) (refl, refl))

@@ -26,8 +26,9 @@ use Rattle.tab_model.proofs.StandingLemmas.{new_follows, step_follows, fold_foll
 use Rattle.tab_journal.specs.Journals.{JournalView, fold_oldest, forget, is_full, full_weight, weight_in, bytes_in}
 use Rattle.tab_core.specs.Steps.{takes_no_memory}
 use Rattle.tab_post.specs.Ends.{empty_outbox}
+use Rattle.tab_book.specs.Logs.{Made, made, joined, Makes, IsWholeRun}
 use Rattle.tab_book.specs.Running.{Running, IsRunning, HavePlaces, Holds}
-use Rattle.tab_book.specs.Steps.{Step, oldest_joined, folded, with_folds, has_to_fold, AreNeeded, FoldsWhileFull, StepsTo, MayFold, with_entries, leaves, has_free_seat, with_new_session, StepsFrom, KeepsPosts, ask_of, is_never_refused}
+use Rattle.tab_book.specs.Steps.{Step, oldest_joined, folded, with_folds, has_to_fold, AreNeeded, FoldsWhileFull, StepsTo, MayFold, with_entries, with_room, leaves, has_free_seat, with_new_session, StepsFrom, KeepsPosts, ask_of, is_never_refused}
 
 pub new_holds : (seen : ℕ) (limits : Limits) (n most : ℕ) → 1 ≤ n → 1 ≤ most → Holds seen (new limits) (record { base = empty; entries = []; limit = n; most_bytes = most })
 new_holds seen limits n most limit some = record {
@@ -41,14 +42,15 @@ new_holds seen limits n most limit some = record {
   stands = new_follows limits;
 }
 
-pub running : (seen : ℕ) (σ : State) (j : JournalView) → Holds seen σ j → IsRunning (record { state = σ; journal = j })
-running seen σ j k = record {
+pub running : (seen : ℕ) (σ : State) (j : JournalView) (log : List Made) → Holds seen σ j × IsWholeRun log σ → IsRunning (record { state = σ; journal = j; log = log })
+running seen σ j log (k, run) = record {
   past = k.past;
   whole = k.stands.tied;
   history = history_of k.past j.base j.entries σ k.stands;
   commits = commits_are k.past j.base j.entries σ k.stands;
   sound = k.sound;
   rising = k.rising;
+  run = run;
   sent = λ n s here. record { before = Rattle.tab_model.specs.Slices.slice n k.past; is = sent_is k.past j.base j.entries σ k.stands n s here };
   watching = λ n s t here. watched_is k.past j.base j.entries σ k.stands n s here t;
 }
@@ -216,15 +218,15 @@ abbrev pub HasMadeRoom : Running → Running → ℕ → Ask → Type 0
 HasMadeRoom old mid n a =
     (folds : ℕ) × AreNeeded old.state n a old.journal folds
     × (has_to_fold old.state n a (with_folds old.state folds old.journal) ≡ false)
-    × (mid ≡ record { state = old.state; journal = with_folds old.state folds old.journal })
+    × (mid ≡ with_room old folds)
 
-pub room_made : (old mid : Running) (n : ℕ) (a : Ask) → may_enter old.state n a ≡ true → mid.state ≡ old.state
+pub room_made : (old mid : Running) (n : ℕ) (a : Ask) → may_enter old.state n a ≡ true → mid.state ≡ old.state → mid.log ≡ old.log
     → FoldsWhileFull old.state old.journal mid.journal → is_full mid.journal ≡ false → HasMadeRoom old mid n a
-room_made old mid n a may same h vacant = (
+room_made old mid n a may same log h vacant = (
   h.folds,
   needed old.state n a old.journal mid.journal may h,
   ap (λ b. b && may_enter old.state n a) (ap is_full (sym h.journal) ∙ vacant),
-  λ i. record { state = same i; journal = h.journal i },
+  λ i. record { state = same i; journal = h.journal i; log = log i },
 )
 
 pub room_there : (old mid : Running) (n : ℕ) (a : Ask) → has_to_fold old.state n a old.journal ≡ false → mid ≡ old → HasMadeRoom old mid n a
@@ -232,12 +234,12 @@ room_there old mid n a room is = (zero, λ k lt. absurd (omega (arith, lt)), roo
 
 -- a step that is made from there
 pub steps_to : {E : Type 0} (x : Result Reply E) (old mid new : Running) (n : ℕ) (a : Ask) → HasMadeRoom old mid n a
-    → IfOk x (λ r. StepsFrom mid.state mid.journal n a r new) → IfOk x (λ r. StepsTo old n a r new)
+    → IfOk x (λ r. StepsFrom mid n a r new) → IfOk x (λ r. StepsTo old n a r new)
 steps_to (Ok r) old mid new n a (folds, needed, enough, is) h = record {
   folds = folds;
   needed = needed;
   enough = enough;
-  step = subst (λ (b : Running). StepsFrom b.state b.journal n a r new) is h;
+  step = subst (λ (b : Running). StepsFrom b n a r new) is h;
 }
 steps_to (Err e) old mid new n a made h = tt
 
@@ -245,15 +247,17 @@ steps_to (Err e) old mid new n a made h = tt
 pub may_fold : (old mid new : Running) (n : ℕ) (a : Ask) → HasMadeRoom old mid n a → new ≡ mid → MayFold old n a new
 may_fold old mid new n a (folds, needed, enough, is) same = record {
   state = ap (λ (b : Running). b.state) (same ∙ is);
+  log = ap (λ (b : Running). b.log) (same ∙ is);
   folds = folds;
   needed = needed;
   journal = ap (λ (b : Running). b.journal) (same ∙ is);
 }
 
-pub may_fold_some : (old new : Running) (n : ℕ) (a : Ask) → may_enter old.state n a ≡ true → new.state ≡ old.state
+pub may_fold_some : (old new : Running) (n : ℕ) (a : Ask) → may_enter old.state n a ≡ true → new.state ≡ old.state → new.log ≡ old.log
     → FoldsWhileFull old.state old.journal new.journal → MayFold old n a new
-may_fold_some old new n a may same h = record {
+may_fold_some old new n a may same log h = record {
   state = same;
+  log = log;
   folds = h.folds;
   needed = needed old.state n a old.journal new.journal may h;
   journal = h.journal;
@@ -332,13 +336,15 @@ module _ (seen : ℕ) (σ : State) (j : JournalView) (k : Holds seen σ j) (over
       by false l h f = subst (Holds seen o.state) (sym f) h
 
   pub made_steps : Allowed σ over n a → (entered now : JournalView) → entered ≡ with_entries j (entries o.entry) → (b : Bool) → b ≡ leaves σ n a → now ≡ (if b then forget entered n else entered)
-      → StepsFrom σ j n a o.reply (record { state = o.state; journal = now })
-  made_steps allowed entered now e b l f = record {
+      → (log all : List Made) → all ≡ log ++ made n a o.reply ∷ []
+      → StepsFrom (record { state = σ; journal = j; log = log }) n a o.reply (record { state = o.state; journal = now; log = all })
+  made_steps allowed entered now e b l f log all logged = record {
     over = over;
     entry = o.entry;
     allowed = allowed;
     core = is;
     entered = f ∙ (λ i. if l i then forget (e i) n else e i);
+    logged = logged;
     sent = step_sent seen σ j k over n a o is joins;
   }
 

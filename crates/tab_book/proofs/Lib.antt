@@ -4,3 +4,5 @@ pub mod Crossing
 pub mod Closures
 pub mod Releasing
 pub mod Replying
+pub mod Logging
+pub mod Seeing

@@ -1,18 +1,24 @@
 -- What an inbox takes of a session's post, and what is shown when nothing is left (this project's own).
 use Rattle.std.specs.Prelude.{◌≡◌, ℕ, List, [], ◌∷◌, ◌++◌, Option, Some, None}
 use Rattle.tab_model.specs.declared.data.Item.{Item}
+use Rattle.tab_model.specs.declared.data.Reply.TheVariants as reply
 use Rattle.tab_model.specs.State.{Session, session_at}
 use Rattle.tab_model.specs.declared.ask.Ask.TheVariants.{Take}
 use Rattle.tab_model.specs.Outcome.{outcome}
 use Rattle.tab_outbox.specs.Mailboxes.{StartsWith}
 use Rattle.tab_book.specs.declared.step.Drained.{Drained}
 use Rattle.tab_book.specs.declared.step.Drained.TheVariants.{Going, AllTaken, Overflow, Left}
+use Rattle.tab_book.specs.Logs.{made}
 use Rattle.tab_book.specs.Running.{Running, IsRunning}
 
 -- the session is joined, with the post of that mailbox
 pub record IsOwn (b : Running) (n mailbox : ℕ) (s : Session) : Type 0 where
   pub there : session_at b.state.sessions n ≡ Some s
   pub own : s.outbox.mailbox ≡ Some mailbox
+
+-- the book after a Take of this session that told an overflow
+abbrev pub after_overflow : Running → ℕ → ℕ → Running
+after_overflow b n c = record b { state = (outcome b.state [] n Take).state; log = b.log ++ made n Take (reply.Overflow c) ∷ [] }
 
 -- by an inbox of that mailbox, which had taken the one list and then the other. What an own inbox has taken is a beginning of
 -- what was sent, and all of it where nothing is left; an overflow is then told once
@@ -23,7 +29,7 @@ Drains old n mailbox before AllTaken after new =
     (s : Session) × (session_at old.state.sessions n ≡ Some s) × (after ≡ before) × (new ≡ old) × (s.outbox.mailbox ≡ Some mailbox → (after ≡ s.outbox.items) × (s.overflow ≡ None))
 Drains old n mailbox before (Overflow c) after new =
     (s : Session) × IsOwn old n mailbox s × (after ≡ before) × (after ≡ s.outbox.items) × (s.overflow ≡ Some c)
-    × (new ≡ record { state = (outcome old.state [] n Take).state; journal = old.journal })
+    × (new ≡ after_overflow old n c)
 Drains old n mailbox before Left after new = (session_at old.state.sessions n ≡ None) × (after ≡ before) × (new ≡ old)
 
 -- a running book gave this to an inbox of that mailbox, which had received the one list and then the other
@@ -44,4 +50,4 @@ TakesIt before Left after = after ≡ before
 -- an overflow that was not told yet is told
 abbrev pub TellsOverflow : Running → ℕ → Option ℕ → Drained → Running → Type 0
 TellsOverflow old n None r new = (r ≡ AllTaken) × (new ≡ old)
-TellsOverflow old n (Some c) r new = (r ≡ Overflow c) × (new ≡ record { state = (outcome old.state [] n Take).state; journal = old.journal })
+TellsOverflow old n (Some c) r new = (r ≡ Overflow c) × (new ≡ after_overflow old n c)

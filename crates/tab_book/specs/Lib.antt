@@ -1,3 +1,4 @@
+pub mod Logs
 pub mod Running
 pub mod Steps
 pub mod Inboxes

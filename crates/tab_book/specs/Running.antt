@@ -11,11 +11,13 @@ use Rattle.tab_model.specs.Standing.{FollowsLog}
 use Rattle.tab_model.specs.State.{Session, State, session_at, level_in, IsSound}
 use Rattle.tab_model.specs.Reached.{IsRising}
 use Rattle.tab_journal.specs.Journals.{JournalView}
+use Rattle.tab_book.specs.Logs.{Made, IsWholeRun}
 
--- a book as plain data: its core's state and its journal
+-- a book as plain data: its core's state, its journal, and the log of its steps
 pub record Running : Type 0 where
   pub state : State
   pub journal : JournalView
+  pub log : List Made
 
 -- the first list ends with the second
 pub record EndsWith (all xs : List Item) : Type 0 where
@@ -36,6 +38,8 @@ pub record IsRunning (b : Running) : Type 0 where
   pub sound : IsSound b.state
   -- ages rise along every wait, and each queued request is of its session's open transaction
   pub rising : IsRising b.state
+  -- the steps of its log, one after another, lead from a new state to its state
+  pub run : IsWholeRun b.log b.state
   -- the last that a joined session was sent is what it is due since the base
   pub sent : (n : ℕ) (s : Session) → session_at b.state.sessions n ≡ Some s → EndsWith s.outbox.items (slice_since b.journal.base n b.journal.entries)
   -- and it watches what is in force since the base

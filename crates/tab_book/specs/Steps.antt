@@ -17,6 +17,9 @@ use Rattle.tab_journal.specs.Journals.{JournalView, fold_oldest, forget, is_full
 use Rattle.tab_post.specs.Ends.{empty_outbox}
 use Rattle.tab_book.specs.declared.step.JoinFault.{JoinFault}
 use Rattle.tab_book.specs.declared.step.JoinFault.TheVariants.{Limit, NoMemory}
+use Rattle.tab_book.specs.declared.log.Request.{Request}
+use Rattle.tab_book.specs.declared.log.Request.TheVariants as request
+use Rattle.tab_book.specs.Logs.{joined, made}
 use Rattle.tab_book.specs.Running.{Running}
 
 -- what a session asks, where no one joins
@@ -26,6 +29,11 @@ Step = AskWith Infallible
 -- what the core is asked for a step
 abbrev pub ask_of : Step → Ask
 ask_of s = core.ask_of {P = Infallible} (λ none. elim none [ ]) s
+
+-- what a request that is logged asks
+abbrev pub ask_in : Request → Ask
+ask_in (request.Step s) = ask_of s.value
+ask_in (request.Join place) = Join (empty_outbox place)
 
 -- a session can leave, take and abort whatever memory is left
 abbrev pub is_never_refused : Step → Bool
@@ -80,26 +88,33 @@ abbrev pub forgetting : State → ℕ → Ask → JournalView → JournalView
 forgetting σ n a j = if leaves σ n a then forget j n else j
 
 -- a step that was made, over a journal with room for its entry
-pub record StepsFrom (σ : State) (journal : JournalView) (n : ℕ) (a : Ask) (r : Reply) (new : Running) : Type 0 where
+pub record StepsFrom (old : Running) (n : ℕ) (a : Ask) (r : Reply) (new : Running) : Type 0 where
   pub over : List ℕ
   pub entry : Option Entry
-  pub allowed : Allowed σ over n a
-  pub core : outcome σ over n a ≡ record { state = new.state; reply = r; entry = entry }
-  pub entered : new.journal ≡ forgetting σ n a (with_entries journal (entries entry))
+  pub allowed : Allowed old.state over n a
+  pub core : outcome old.state over n a ≡ record { state = new.state; reply = r; entry = entry }
+  pub entered : new.journal ≡ forgetting old.state n a (with_entries old.journal (entries entry))
+  -- the log has it as its last step
+  pub logged : new.log ≡ old.log ++ made n a r ∷ []
   -- each session that stays was sent what the entry owes it
-  pub sent : (m : ℕ) (s x : Session) → session_at σ.sessions m ≡ Some s → session_at new.state.sessions m ≡ Some x
-      → x.outbox.items ≡ s.outbox.items ++ slice_since_after journal.base m journal.entries (entries entry)
+  pub sent : (m : ℕ) (s x : Session) → session_at old.state.sessions m ≡ Some s → session_at new.state.sessions m ≡ Some x
+      → x.outbox.items ≡ s.outbox.items ++ slice_since_after old.journal.base m old.journal.entries (entries entry)
+
+-- the book with so many of its oldest entries in its journal's base
+abbrev pub with_room : Running → ℕ → Running
+with_room b folds = record b { journal = with_folds b.state folds b.journal }
 
 -- a step of a book that was made; the oldest entries were folded first, until its entry had room
 pub record StepsTo (old : Running) (n : ℕ) (a : Ask) (r : Reply) (new : Running) : Type 0 where
   pub folds : ℕ
   pub needed : AreNeeded old.state n a old.journal folds
   pub enough : has_to_fold old.state n a (with_folds old.state folds old.journal) ≡ false
-  pub step : StepsFrom old.state (with_folds old.state folds old.journal) n a r new
+  pub step : StepsFrom (with_room old folds) n a r new
 
 -- one that was refused for memory changed nothing but that some of the entries that it folds may be folded
 pub record MayFold (old : Running) (n : ℕ) (a : Ask) (new : Running) : Type 0 where
   pub state : new.state ≡ old.state
+  pub log : new.log ≡ old.log
   pub folds : ℕ
   pub needed : AreNeeded old.state n a old.journal folds
   pub journal : new.journal ≡ with_folds old.state folds old.journal
@@ -127,6 +142,7 @@ pub record Joins (old : Running) (session mailbox : ℕ) (taken : List Item) (ne
   -- it is no mailbox of a joined session
   pub fresh : (n : ℕ) (s : Session) → session_at old.state.sessions n ≡ Some s → s.outbox.mailbox ≢ Some mailbox
   pub journal : new.journal ≡ old.journal
+  pub logged : new.log ≡ old.log ++ joined session mailbox ∷ []
 
 -- a join that changed nothing: no seat is free, or one is and memory was refused
 abbrev pub Refuses : Running → JoinFault → Running → Type 0

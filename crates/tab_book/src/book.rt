@@ -1,14 +1,19 @@
 //! A core over mailboxes, and its journal.
 
-ghost use Rattle.std.specs.Prelude.{◌≡◌, ◌≤◌, ◌+◌, [], IsTrue, IfOk, IfErr, OnOk, OnErr, count_by, is_some};
+ghost use Rattle.std.specs.Prelude.{◌≡◌, ◌≤◌, ◌+◌, [], ◌∷◌, ◌++◌, IsTrue, IfOk, IfErr, OnOk, OnErr, count_by, is_some};
+ghost use mathlib.Core.List.{IsPrefix};
 ghost use Rattle.tab_model.specs.History.{empty as empty_base};
 ghost use Rattle.tab_model.specs.State.{new as new_state, level_in, IsSound};
 ghost use Rattle.tab_core.specs.Ready.{AreReady};
-ghost use Rattle.tab_post.specs.Ends.{as_outbox, capacity_in, mailbox_of, received, room_of};
+ghost use Rattle.tab_post.specs.Ends.{as_outbox, mailbox_of, received, room_in, room_of};
+ghost use Rattle.tab_book.specs.Logs.{joined};
+ghost use Rattle.tab_book.specs.Replies.{HasJoined};
 ghost use Rattle.tab_book.specs.Running.{IsRunning};
 ghost use Rattle.tab_book.specs.Transitions.{counted_levels};
 ghost use Rattle.tab_book.specs.Steps.{Joins, Refuses, has_free_seat as has_free_seat_of, with_new_session, KeepsPosts};
 
+use crate::log::{Log, Request, Seen};
+use crate::opened::Opened;
 use crate::step::JoinFault;
 use arrayvec::ArrayVec;
 use std::alloc::{AllocError, Global};
@@ -16,17 +21,18 @@ use std::marker::Model;
 use tab_core::{Core, Rest, SESSIONS, Step};
 use tab_journal::Journal;
 use tab_model::Limits;
-use tab_post::{Channel, ChannelPost, Host, Inbox, NewMailbox, Opened, Prefix, Register};
+use tab_post::{Channel, ChannelPost, Host, Inbox, NewMailbox, Prefix, Register};
 use tab_tables::Catalog;
 use tab_term::Atom;
 
-/// A core whose sessions have mailboxes, and its journal.
+/// A core whose sessions have mailboxes, its journal, and the log of its steps.
 #[derive(Drop)]
 pub struct Book<H: Host> {
     host: H,
     pub(crate) alloc: Global,
     register: Register<Channel, H>,
     prefix: Prefix<Channel, H>,
+    pub(crate) log: Log<H>,
     pub(crate) core: Core<ChannelPost<H>>,
     pub(crate) journal: Journal,
 }
@@ -35,15 +41,17 @@ impl<H: Host> Model for Book<H> {
     ghost use Rattle.std.specs.Coded.{codes};
     ghost use Rattle.tab_term.specs.Code.{term_code, terms_code, pairs_code};
     ghost use Rattle.std.specs.Prelude.{length};
+    ghost use Rattle.tab_book.specs.Logs.{IsWholeRun};
     ghost use Rattle.tab_book.specs.Running.{Running, Holds};
 
     ghost Value = { Running };
 
     ghost coded = { Prim.hlevel (codes, term_code, terms_code, pairs_code) };
 
-    ghost view = { λ a. record { state = a.core; journal = a.journal } };
+    ghost view = { λ a. record { state = a.core; journal = a.journal; log = a.log } };
 
-    ghost invariant = { λ a. Holds (length a.prefix) a.core a.journal };
+    ghost invariant = { λ a.
+        Holds (length a.prefix) a.core a.journal × IsWholeRun a.log a.core };
 }
 
 impl<H: Host> Book<H> {
@@ -52,13 +60,13 @@ impl<H: Host> Book<H> {
     pub fn new(
         host: H,
         alloc: Global,
-        opened: Opened<Channel>,
+        opened: Opened,
         limits: Limits,
     ) -> Result<Book<H>, AllocError>
         requires sessions { limits.sessions ≤ 64 }
         requires journal { 1 ≤ limits.journal }
         requires journal_bytes { 1 ≤ limits.journal_bytes }
-        requires name { opened ≡ H.book }
+        requires name { opened ≡ H.books }
         ensures { IfOk result
             (λ b. b ≡ record {
               state = new_state limits;
@@ -69,15 +77,18 @@ impl<H: Host> Book<H> {
                     limit = limits.journal;
                     most_bytes = limits.journal_bytes;
                   };
+              log = [];
             }) }
     {
-        let (register, prefix) = opened.named::<H>();
+        let Opened { mailboxes, steps } = opened;
+        let (register, prefix) = mailboxes.named::<H>();
         let journal = Journal::with_limit(alloc, limits.journal as usize, limits.journal_bytes)?;
         Ok(Book {
             host,
             alloc,
             register,
             prefix,
+            log: Log::new(host, steps),
             core: Core::new(alloc, limits),
             journal,
         })
@@ -97,6 +108,15 @@ impl<H: Host> Book<H> {
         ensures running { IsRunning self.now }
     {
         &self.journal
+    }
+
+    /// The steps that were made, for a thread that saw a beginning of them.
+    pub fn show(&self, seen: &mut Seen<H>)
+        ensures before { IsPrefix seen.old self.now.log }
+        ensures all { seen.new ≡ self.now.log }
+        ensures running { IsRunning self.now }
+    {
+        self.log.show(seen);
     }
 
     /// The number of sessions that watch the table.
@@ -126,7 +146,7 @@ impl<H: Host> Book<H> {
     pub fn join(&mut self, mailbox: NewMailbox) -> Result<(u32, Inbox<H>), JoinFault>
         ensures ok { IfOk result
             (λ r. Joins self.old r.0 (mailbox_of r.1) (received r.1) self.new) }
-        ensures room { IfOk result (λ r. capacity_in r.1 ≡ room_of mailbox) }
+        ensures room { IfOk result (λ r. room_in r.1 ≡ room_of mailbox) }
         ensures err { IfErr result (λ e. Refuses self.old e self.new) }
         ensures posts { KeepsPosts self.old.state self.new.state }
         ensures running { IsRunning self.new }
@@ -137,10 +157,28 @@ impl<H: Host> Book<H> {
         joined
     }
 
+    /// Joins a session, and shows the log up to there to a thread that saw a beginning of it.
+    pub fn join_shown(
+        &mut self,
+        mailbox: NewMailbox,
+        seen: &mut Seen<H>,
+    ) -> Result<(u32, Inbox<H>), JoinFault>
+        ensures joined { IfOk result (λ r.
+            HasJoined seen.old seen.new r.0 (mailbox_of r.1)) }
+        ensures inbox { IfOk result (λ r. received r.1 ≡ []) }
+        ensures room { IfOk result (λ r. room_in r.1 ≡ room_of mailbox) }
+        ensures grows { IsPrefix seen.old seen.new }
+    {
+        self.show(seen);
+        let joined = self.join(mailbox)?;
+        self.show(seen);
+        Ok(joined)
+    }
+
     fn seated(&mut self, mailbox: NewMailbox) -> Result<(u32, Inbox<H>), JoinFault>
         ensures ok { IfOk result
             (λ r. Joins self.old r.0 (mailbox_of r.1) (received r.1) self.new) }
-        ensures room { IfOk result (λ r. capacity_in r.1 ≡ room_of mailbox) }
+        ensures room { IfOk result (λ r. room_in r.1 ≡ room_of mailbox) }
         ensures err { IfErr result (λ e. Refuses self.old e self.new) }
         ensures posts { KeepsPosts self.old.state self.new.state }
     {
@@ -149,7 +187,8 @@ impl<H: Host> Book<H> {
         }
         let session = self.core.greatest() + 1;
         let (post, inbox) = mailbox.enter(&self.register, &mut self.prefix, self.host);
-        match seat(&mut self.core, session, post) {
+        let mailbox = inbox.place();
+        match seat(&mut self.core, &mut self.log, session, post, mailbox) {
             Ok(()) => Ok((session, inbox)),
             Err(_) => Err(JoinFault::NoMemory),
         }
@@ -174,20 +213,25 @@ impl<H: Host> Book<H> {
     }
 }
 
-/// The session joins with this post.
+/// The session joins with the post of this mailbox, which is logged.
 fn seat<H: Host>(
     core: &mut Core<ChannelPost<H>>,
+    log: &mut Log<H>,
     session: u32,
     post: ChannelPost<H>,
+    mailbox: u64,
 ) -> Result<(), AllocError>
     requires sound { IsSound core.old }
     requires room { IsTrue (has_free_seat_of core.old) }
     requires number { session ≡ core.old.greatest + 1 }
     ensures ok { OnOk result (core.new ≡ with_new_session core.old session (as_outbox post)) }
+    ensures logged { OnOk result (log.new ≡ log.old ++ joined session mailbox ∷ []) }
     ensures err { OnErr result (core.new ≡ core.old) }
+    ensures unlogged { OnErr result (log.new ≡ log.old) }
     ensures sound { IsSound core.new }
 {
     let stepped = core.step(session, Step::Join(post))?;
-    drop(stepped.into_reply());
+    let told = stepped.into_reply();
+    log.add(session, Request::Join(mailbox), &told);
     Ok(())
 }

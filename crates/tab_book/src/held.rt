@@ -1,10 +1,12 @@
 //! Several steps of one session under one hold of the lock.
 
 ghost use Rattle.std.specs.Prelude.{◌≡◌, IsTrue, IfOk, IsOk};
+ghost use mathlib.Core.List.{IsPrefix};
 ghost use Rattle.tab_book.specs.Replies.{IsAnswer};
 ghost use Rattle.tab_book.specs.Steps.{ask_of, is_never_refused};
 
 use crate::book::Book;
+use crate::log::Seen;
 use crate::shared::{Seat, Shared};
 use crate::step::{Answered, Step};
 use std::alloc::AllocError;
@@ -25,6 +27,8 @@ pub struct Held<'a, H: Host> {
     steps: usize,
     /// True if one of the steps may let another session go on.
     releases: bool,
+    /// What was seen of the log.
+    pub seen: Seen<H>,
 }
 
 impl<'a, H: Host> Held<'a, H> {
@@ -36,13 +40,16 @@ impl<'a, H: Host> Held<'a, H> {
             book: None,
             steps: 0,
             releases: false,
+            seen: shared.seen(),
         }
     }
 
     /// Makes a step of the session; the book stays locked.
     pub fn step(&mut self, seat: &Seat, step: Step) -> Result<Answered, AllocError>
         ensures never { IsTrue (is_never_refused step) → IsOk result }
-        ensures answer { IfOk result (λ r. IsAnswer seat.now (ask_of step) r) }
+        ensures answer { IfOk result (λ r.
+            IsAnswer self.old.seen self.new.seen seat.now (ask_of step) r) }
+        ensures grows { IsPrefix self.old.seen self.new.seen }
     {
         if self.steps >= STEPS {
             self.give_back();
@@ -51,7 +58,7 @@ impl<'a, H: Host> Held<'a, H> {
             Some(book) => book,
             None => self.shared.hold(self.host),
         };
-        let answered = book.step(seat.session(), step);
+        let answered = book.step_shown(seat.session(), step, &mut self.seen);
         self.book = Some(book);
         let answered = answered?;
         self.steps = self.steps.saturating_add(1);
@@ -68,7 +75,9 @@ impl<'a, H: Host> Held<'a, H> {
     }
 
     /// Unlocks the book, and wakes the sessions that may go on since.
-    pub fn give_back(&mut self) {
+    pub fn give_back(&mut self)
+        ensures seen { self.new.seen ≡ self.old.seen }
+    {
         self.steps = 0;
         let releases = self.releases;
         self.releases = false;

@@ -8,7 +8,8 @@ ghost use Rattle.tab_book.specs.Inboxes.{Drains, IsDrained, TellsOverflow};
 ghost use Rattle.tab_book.specs.Steps.{KeepsPosts};
 
 use crate::book::Book;
-use crate::step::Drained;
+use crate::log::Request;
+use crate::step::{Drained, Step};
 use tab_outbox::Met;
 use tab_post::{Host, Inbox};
 
@@ -55,7 +56,9 @@ impl<H: Host> Book<H> {
         let Some(number) = self.core.overflow(session) else {
             return Drained::AllTaken;
         };
-        drop(self.core.take(session));
+        let told = self.core.take(session).into_reply();
+        let request = Request::of(&Step::Take);
+        self.log.add(session, request, &told);
         Drained::Overflow(number)
     }
 }

@@ -1,16 +1,18 @@
 //! A book that threads share.
 
 ghost use Rattle.std.specs.Prelude.{◌≡◌, ◌≢◌, ◌≤◌, [], IsTrue, IfOk, IfSome, IsOk};
+ghost use mathlib.Core.List.{IsPrefix};
 ghost use Rattle.tab_model.specs.declared.data.Reply.TheVariants as reply;
 ghost use Rattle.tab_model.specs.declared.ask.Ask.TheVariants.{Retry, Do as DoCommand};
 ghost use Rattle.tab_model.specs.Outcome.{is_abort};
-ghost use Rattle.tab_post.specs.Ends.{received, capacity_in, mailbox_of};
+ghost use Rattle.tab_post.specs.Ends.{received, room_in, mailbox_of};
 ghost use Rattle.tab_book.specs.Inboxes.{IsDrained, TakesIt};
-ghost use Rattle.tab_book.specs.Replies.{IsAnswer, IsReply, IsCallReply, Leaves};
+ghost use Rattle.tab_book.specs.Replies.{HasJoined, IsAnswer, IsReply, IsCallReply, Leaves};
 ghost use Rattle.tab_book.specs.Steps.{ask_of, is_never_refused};
 
 use crate::bells::Bells;
 use crate::book::Book;
+use crate::log::Seen;
 use crate::step::{Answered, Drained, JoinFault, Step, Transition};
 use std::alloc::{AllocError, Global};
 use std::marker::Model;
@@ -20,7 +22,7 @@ use std::thread;
 use std::time::Duration;
 use tab_core::Rest;
 use tab_model::{Command, Reply, SharedReply};
-use tab_post::{Host, Inbox, NewMailbox};
+use tab_post::{Host, Inbox, NewMailbox, Room};
 
 /// Names a session of a book that is shared. Contracts see it as the session's number.
 #[derive(Clone, Copy, Debug, PartialEq, Eq)]
@@ -63,30 +65,41 @@ pub struct Shared<H: Host> {
     pub book: Mutex<Book<H>>,
     bells: Bells,
     alloc: Global,
-    outbox: usize,
-    ghost room: { 1 ≤ outbox },
+    room: Room,
+    /// The log as it was at the begin.
+    seen: Seen<H>,
+    ghost has_room: { 1 ≤ room.items },
 }
 
 impl<H: Host> Shared<H> {
-    /// The book in its lock, with a bell for each session. Each mailbox has room for `outbox` items. It takes no memory.
-    pub fn new(book: Book<H>, outbox: usize) -> Shared<H>
-        requires { 1 ≤ outbox }
-        ensures { result.outbox ≡ outbox }
+    /// The book in its lock, with a bell for each session. Each mailbox holds as much as `room` says. It takes no memory.
+    pub fn new(book: Book<H>, room: Room) -> Shared<H>
+        requires { 1 ≤ room.items }
+        ensures { result.room ≡ room }
     {
         let alloc = book.alloc;
+        let seen = book.log.seen();
         Shared {
             book: Mutex::new(book),
             bells: Bells::new(),
             alloc,
-            outbox,
+            room,
+            seen,
         }
     }
 
-    /// The most items of a session's mailbox.
-    pub fn outbox(&self) -> usize
-        ensures { result ≡ self.now.outbox }
+    /// What a session's mailbox holds.
+    pub fn room(&self) -> Room
+        ensures { result ≡ self.now.room }
     {
-        self.outbox
+        self.room
+    }
+
+    /// A beginning of the log, for a thread that sees more of it by its calls.
+    pub fn seen(&self) -> Seen<H>
+        ensures { result ≡ self.now.seen }
+    {
+        self.seen.again()
     }
 
     /// Locks the book. It tries for a while before it sleeps.
@@ -112,46 +125,70 @@ impl<H: Host> Shared<H> {
 
     /// Joins a session, with a mailbox of its own, whose receiving end it returns. The mailbox is created before the
     /// book is locked, since it has room for its capacity.
-    pub fn join(&self, host: &H) -> Result<(Seat, Inbox<H>), JoinFault>
+    pub fn join(&self, host: &H, seen: &mut Seen<H>) -> Result<(Seat, Inbox<H>), JoinFault>
         ensures number { IfOk result (λ r. 1 ≤ r.0) }
+        ensures joined { IfOk result (λ r.
+            HasJoined seen.old seen.new r.0 (mailbox_of r.1)) }
+        ensures grows { IsPrefix seen.old seen.new }
         ensures inbox { IfOk result (λ r. received r.1 ≡ []) }
-        ensures room { IfOk result (λ r. capacity_in r.1 ≡ self.now.outbox) }
+        ensures room { IfOk result (λ r. room_in r.1 ≡ self.now.room) }
     {
-        let Ok(mailbox) = NewMailbox::new(self.alloc, self.outbox) else {
+        let Ok(mailbox) = NewMailbox::new(self.alloc, self.room) else {
             return Err(JoinFault::NoMemory);
         };
-        let (session, inbox) = self.hold(host).join(mailbox)?;
+        let (session, inbox) = self.hold(host).join_shown(mailbox, seen)?;
         Ok((Seat { session }, inbox))
     }
 
     /// Makes a command of the session. If it has to wait for a lock, it waits and asks again after each release, until
     /// it has another reply. If memory is refused while it asks again, the request stays queued, and an abort ends it.
-    pub fn call(&self, host: &H, seat: &Seat, command: Command) -> Result<SharedReply, AllocError>
-        ensures { IfOk result (λ r. IsCallReply seat.now command r) }
+    pub fn call(
+        &self,
+        host: &H,
+        seat: &Seat,
+        command: Command,
+        seen: &mut Seen<H>,
+    ) -> Result<SharedReply, AllocError>
+        ensures reply { IfOk result (λ r. IsCallReply seen.old seen.new seat.now command r) }
+        ensures grows { IsPrefix seen.old seen.new }
     {
-        let told = self.step(host, seat, command)?;
+        let told = self.step(host, seat, command, seen)?;
         if matches!(told.reply(), Reply::Waiting) {
-            return self.retry(host, seat);
+            return self.retry(host, seat, seen);
         }
         Ok(told)
     }
 
     /// Makes a command of the session, once: the reply is `Waiting` if it has to wait for a lock.
-    pub fn step(&self, host: &H, seat: &Seat, command: Command) -> Result<SharedReply, AllocError>
+    pub fn step(
+        &self,
+        host: &H,
+        seat: &Seat,
+        command: Command,
+        seen: &mut Seen<H>,
+    ) -> Result<SharedReply, AllocError>
         ensures abort { IsTrue (is_abort command) → IsOk result }
-        ensures reply { IfOk result (λ r. IsReply seat.now (DoCommand command) r) }
+        ensures reply { IfOk result (λ r.
+            IsReply seen.old seen.new seat.now (DoCommand command) r) }
+        ensures grows { IsPrefix seen.old seen.new }
     {
-        let answered = self.make(host, seat, Step::Do(command))?;
+        let answered = self.make(host, seat, Step::Do(command), seen)?;
         Ok(answered.told)
     }
 
     /// Asks for the lock that the session waits for, after each release once more, until it has another reply.
-    pub fn retry(&self, host: &H, seat: &Seat) -> Result<SharedReply, AllocError>
+    pub fn retry(
+        &self,
+        host: &H,
+        seat: &Seat,
+        seen: &mut Seen<H>,
+    ) -> Result<SharedReply, AllocError>
         ensures over { IfOk result (λ r. r ≢ reply.Waiting) }
-        ensures reply { IfOk result (λ r. IsReply seat.now Retry r) }
+        ensures reply { IfOk result (λ r. IsReply seen.old seen.new seat.now Retry r) }
+        ensures grows { IsPrefix seen.old seen.new }
     {
         for _ in host.forever() {
-            if let Some(answered) = self.retry_once(host, seat, SLEEP)? {
+            if let Some(answered) = self.retry_once(host, seat, SLEEP, seen)? {
                 return Ok(answered.told);
             }
         }
@@ -165,21 +202,24 @@ impl<H: Host> Shared<H> {
         host: &H,
         seat: &Seat,
         over: &AtomicBool,
+        seen: &mut Seen<H>,
     ) -> Result<Option<Answered>, AllocError>
         ensures over { IfOk result (λ answered. IfSome answered (λ a. a.told ≢ reply.Waiting)) }
-        ensures answer { IfOk result (λ answered. IfSome answered (λ a. IsAnswer seat.now Retry a)) }
+        ensures answer { IfOk result (λ answered. IfSome answered (λ a.
+            IsAnswer seen.old seen.new seat.now Retry a)) }
+        ensures grows { IsPrefix seen.old seen.new }
     {
         let bell = self.bells.of(seat.session);
         for _ in host.forever() {
-            let seen = bell.notifications();
+            let rung = bell.notifications();
             if over.load(Ordering::SeqCst) {
                 return Ok(None);
             }
-            let answered = self.make(host, seat, Step::Retry)?;
+            let answered = self.make(host, seat, Step::Retry, seen)?;
             if !matches!(answered.told.reply(), Reply::Waiting) {
                 return Ok(Some(answered));
             }
-            bell.sleep(host, seen, Duration::from_millis(SLEEP));
+            bell.sleep(host, rung, Duration::from_millis(SLEEP));
         }
         unreachable!()
     }
@@ -196,12 +236,15 @@ impl<H: Host> Shared<H> {
         host: &H,
         seat: &Seat,
         naps: u32,
+        seen: &mut Seen<H>,
     ) -> Result<Option<Answered>, AllocError>
         ensures over { IfOk result (λ answered. IfSome answered (λ a. a.told ≢ reply.Waiting)) }
-        ensures answer { IfOk result (λ answered. IfSome answered (λ a. IsAnswer seat.now Retry a)) }
+        ensures answer { IfOk result (λ answered. IfSome answered (λ a.
+            IsAnswer seen.old seen.new seat.now Retry a)) }
+        ensures grows { IsPrefix seen.old seen.new }
     {
         for _ in 0..naps {
-            if let Some(answered) = self.retry_once(host, seat, NAP)? {
+            if let Some(answered) = self.retry_once(host, seat, NAP, seen)? {
                 return Ok(Some(answered));
             }
         }
@@ -215,17 +258,20 @@ impl<H: Host> Shared<H> {
         host: &H,
         seat: &Seat,
         at_most: u64,
+        seen: &mut Seen<H>,
     ) -> Result<Option<Answered>, AllocError>
         ensures over { IfOk result (λ answered. IfSome answered (λ a. a.told ≢ reply.Waiting)) }
-        ensures answer { IfOk result (λ answered. IfSome answered (λ a. IsAnswer seat.now Retry a)) }
+        ensures answer { IfOk result (λ answered. IfSome answered (λ a.
+            IsAnswer seen.old seen.new seat.now Retry a)) }
+        ensures grows { IsPrefix seen.old seen.new }
     {
         let bell = self.bells.of(seat.session);
-        let seen = bell.notifications();
-        let answered = self.make(host, seat, Step::Retry)?;
+        let rung = bell.notifications();
+        let answered = self.make(host, seat, Step::Retry, seen)?;
         if !matches!(answered.told.reply(), Reply::Waiting) {
             return Ok(Some(answered));
         }
-        bell.sleep(host, seen, Duration::from_millis(at_most));
+        bell.sleep(host, rung, Duration::from_millis(at_most));
         Ok(None)
     }
 
@@ -236,15 +282,15 @@ impl<H: Host> Shared<H> {
         let bell = self.bells.of(seat.session);
         let mut behind = false;
         for _ in 0..naps {
-            let seen = bell.notifications();
+            let rung = bell.notifications();
             match self.rest_of(host, seat) {
                 Rest::Over | Rest::Free => return true,
                 Rest::Behind if behind => return true,
                 Rest::Behind => behind = true,
                 Rest::Held => behind = false,
             }
-            bell.sleep(host, seen, Duration::from_millis(NAP));
-            behind = behind && bell.notifications() == seen;
+            bell.sleep(host, rung, Duration::from_millis(NAP));
+            behind = behind && bell.notifications() == rung;
         }
         matches!(self.rest_of(host, seat), Rest::Over | Rest::Free)
     }
@@ -264,10 +310,11 @@ impl<H: Host> Shared<H> {
     }
 
     /// The session's transaction ends, and its post is dropped. Returns what became of the transaction.
-    pub fn leave(&self, host: &H, seat: &Seat) -> Transition
-        ensures { Leaves seat.now result }
+    pub fn leave(&self, host: &H, seat: &Seat, seen: &mut Seen<H>) -> Transition
+        ensures leaves { Leaves seen.old seen.new seat.now result }
+        ensures grows { IsPrefix seen.old seen.new }
     {
-        match self.make(host, seat, Step::Leave) {
+        match self.make(host, seat, Step::Leave, seen) {
             Ok(answered) => answered.transaction,
             Err(_) => unreachable!(),
         }
@@ -279,12 +326,20 @@ impl<H: Host> Shared<H> {
     }
 
     /// A step, after which those are woken that may go on since.
-    fn make(&self, host: &H, seat: &Seat, step: Step) -> Result<Answered, AllocError>
+    fn make(
+        &self,
+        host: &H,
+        seat: &Seat,
+        step: Step,
+        seen: &mut Seen<H>,
+    ) -> Result<Answered, AllocError>
         ensures never { IsTrue (is_never_refused step) → IsOk result }
-        ensures answer { IfOk result (λ r. IsAnswer seat.now (ask_of step) r) }
+        ensures answer { IfOk result (λ r.
+            IsAnswer seen.old seen.new seat.now (ask_of step) r) }
+        ensures grows { IsPrefix seen.old seen.new }
     {
         let mut book = self.hold(host);
-        let answered = book.step(seat.session, step)?;
+        let answered = book.step_shown(seat.session, step, seen)?;
         self.let_go(book, answered.releases);
         Ok(answered)
     }

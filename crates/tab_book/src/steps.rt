@@ -1,6 +1,7 @@
 //! Steps of a book.
 
 ghost use Rattle.std.specs.Prelude.{◌≡◌, ◌≢◌, ◌<◌, ◌&&◌, [], IsTrue, IsFalse, IfOk, IfSome, IsOk, MatchOption, OnOk, OnErr, is_some, length, nat_lt};
+ghost use mathlib.Core.List.{IsPrefix};
 ghost use Rattle.tab_model.specs.declared.data.Reply.TheVariants.{Restart};
 ghost use Rattle.tab_model.specs.State.{Outbox, is_waiting, transaction_at};
 ghost use Rattle.tab_model.specs.Run.{entries};
@@ -8,13 +9,14 @@ ghost use Rattle.tab_model.specs.Standing.{may_enter as may_enter_of};
 ghost use Rattle.tab_core.specs.Runs.{ask_of as asked_of};
 ghost use Rattle.tab_core.specs.Steps.{takes_no_memory};
 ghost use Rattle.tab_book.specs.Releases.{is_retry, SaysReleases};
-ghost use Rattle.tab_book.specs.Replies.{IsAnswer};
+ghost use Rattle.tab_book.specs.Replies.{Answers, IsAnswer};
 ghost use Rattle.tab_book.specs.Running.{IsRunning};
 ghost use Rattle.tab_book.specs.Transitions.{counted_levels, ended_by, is_leave, is_restart, transition};
 ghost use Rattle.tab_journal.specs.Journals.{is_full};
-ghost use Rattle.tab_book.specs.Steps.{ask_of, leaves as leaves_of, folded, oldest_joined as oldest_joined_of, with_entries, FoldsWhileFull, StepsFrom, StepsTo, MayFold, KeepsPosts};
+ghost use Rattle.tab_book.specs.Steps.{ask_of, leaves as leaves_of, folded, is_never_refused, oldest_joined as oldest_joined_of, with_entries, FoldsWhileFull, StepsFrom, StepsTo, MayFold, KeepsPosts};
 
 use crate::book::Book;
+use crate::log::{Request, Seen};
 use crate::step::{Answered, Step, TransactionEnd, Transition};
 use std::alloc::AllocError;
 use tab_core::Stepped;
@@ -52,7 +54,7 @@ impl<H: Host> Book<H> {
         ensures transaction { IfOk result
             (λ r. r.transaction
             ≡ transition self.old.state self.new.state session (ask_of step) r.told) }
-        ensures answer { IfOk result (λ r. IsAnswer session (ask_of step) r) }
+        ensures answer { IfOk result (λ r. Answers self.old self.new session (ask_of step) r) }
         ensures running { IsRunning self.new }
     {
         // Known of the book before the step, and after it, is what its parts have to do with each other.
@@ -60,6 +62,24 @@ impl<H: Host> Book<H> {
         let answered = self.answered(session, step);
         let _ = &self.core;
         answered
+    }
+
+    /// Makes a step, and shows the log up to there to a thread that saw a beginning of it.
+    pub fn step_shown(
+        &mut self,
+        session: u32,
+        step: Step,
+        seen: &mut Seen<H>,
+    ) -> Result<Answered, AllocError>
+        ensures never { IsTrue (is_never_refused step) → IsOk result }
+        ensures answer { IfOk result (λ r.
+            IsAnswer seen.old seen.new session (ask_of step) r) }
+        ensures grows { IsPrefix seen.old seen.new }
+    {
+        self.show(seen);
+        let answered = self.step(session, step)?;
+        self.show(seen);
+        Ok(answered)
     }
 
     fn answered(&mut self, session: u32, step: Step) -> Result<Answered, AllocError>
@@ -140,6 +160,7 @@ impl<H: Host> Book<H> {
     fn make_room(&mut self) -> Result<(), AllocError>
         ensures room { OnOk result (IsFalse (is_full self.new.journal)) }
         ensures state { self.new.state ≡ self.old.state }
+        ensures log { self.new.log ≡ self.old.log }
         ensures folds { FoldsWhileFull self.old.state self.old.journal self.new.journal }
     {
         while self.journal.full() {
@@ -192,14 +213,16 @@ impl<H: Host> Book<H> {
         requires room { IsTrue (may_enter_of self.old.state session (ask_of step))
             → IsFalse (is_full self.old.journal) }
         ensures done { IfOk result
-            (λ r. StepsFrom self.old.state self.old.journal session (ask_of step) r self.new) }
+            (λ r. StepsFrom self.old session (ask_of step) r self.new) }
         ensures free { IsTrue (takes_no_memory self.old.state session (ask_of step)) → IsOk result }
         ensures err { OnErr result (self.new ≡ self.old) }
         ensures posts { KeepsPosts self.old.state self.new.state }
     {
         let leaves = self.leaves(session, &step);
+        let request = Request::of(&step);
         let stepped = self.core.step(session, asked(step))?;
         let reply = entered(&mut self.journal, stepped);
+        self.log.add(session, request, &reply);
         if leaves {
             self.journal.forget(session);
         }

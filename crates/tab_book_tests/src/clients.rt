@@ -30,7 +30,8 @@ pub struct Client<'a, H: Host> {
 
 impl<'a, H: Host> Caller for Client<'a, H> {
     fn call(&self, command: Command) -> Result<SharedReply, AllocError> {
-        self.shared.call(self.host, &self.seat, command)
+        self.shared
+            .call(self.host, &self.seat, command, &mut self.shared.seen())
     }
 }
 
@@ -87,7 +88,7 @@ pub fn join_all<H: Host>(
     inboxes: &mut Vec<Inbox<H>>,
 ) -> Result<(), Fail> {
     for _ in 0..count {
-        let (seat, inbox) = shared.join(host).map_err(|_| "join")?;
+        let (seat, inbox) = shared.join(host, &mut shared.seen()).map_err(|_| "join")?;
         sessions.push(seat)?;
         inboxes.push(inbox)?;
     }

@@ -13,10 +13,10 @@ use std::sync::atomic::{AtomicU64, Ordering};
 use std::test::*;
 use std::thread;
 use std::thread::Threads;
-use tab_book::{Book, Seat, Shared};
+use tab_book::{Book, Opened, Seat, Shared};
 use tab_journal::Journal;
 use tab_model::{Change, Command, Entry, Limits, Reply};
-use tab_post::{Channel, Host, Inbox, Naming, Opened};
+use tab_post::{Host, Inbox, Naming, Room};
 use tab_rows::Update;
 use tab_tables::{Catalog, Lender};
 
@@ -146,7 +146,7 @@ fn run_threads<H: Host + Threads + Send + Sync>(
         for seat in sessions {
             let started = scope.spawn(move || raise_all(host, alloc, shared, seat, entered));
             if started.is_err() {
-                shared.leave(host, seat);
+                shared.leave(host, seat, &mut shared.seen());
             }
         }
     });
@@ -179,15 +179,15 @@ fn last_number(journal: &Journal) -> u64 {
 fn count<H: Host + Threads + Send + Sync>(
     host: H,
     alloc: Global,
-    opened: Opened<Channel>,
+    opened: Opened,
     limits: Limits,
 ) -> Result<Counts, Fail>
-    requires opened { opened ≡ H.book }
+    requires opened { opened ≡ H.books }
     requires sessions { limits.sessions ≤ 64 }
     requires journal { 1 ≤ limits.journal }
     requires journal_bytes { 1 ≤ limits.journal_bytes }
 {
-    let shared = Shared::new(Book::new(host, alloc, opened, limits)?, 64);
+    let shared = Shared::new(Book::new(host, alloc, opened, limits)?, Room::of(64));
     count_in(&host, alloc, &shared)
 }
 
@@ -270,10 +270,10 @@ fn is_history_of_199(
 fn count_named<J: Naming + Send + Sync, R: Threads + Wait + Copy + Send + Sync>(
     rt: R,
     alloc: Global,
-    opened: Opened<Channel>,
+    opened: Opened,
     limits: Limits,
 ) -> Result<Counts, Fail>
-    requires opened { opened ≡ J.book }
+    requires opened { opened ≡ J.books }
     requires sessions { limits.sessions ≤ 64 }
     requires journal { 1 ≤ limits.journal }
     requires journal_bytes { 1 ≤ limits.journal_bytes }

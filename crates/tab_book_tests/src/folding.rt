@@ -7,10 +7,10 @@ use std::alloc::{AllocError, Global};
 use std::marker::{Brand, PhantomData};
 use std::sync::Wait;
 use std::test::*;
-use tab_book::{Book, Shared, Step};
+use tab_book::{Book, Opened, Shared, Step};
 use tab_journal::{Base, Journal};
 use tab_model::{Command, Entry, Limits};
-use tab_post::{Channel, Host, Naming, Opened};
+use tab_post::{Host, Naming, Room};
 use tab_term::Term;
 
 /// A commit of one write: its number.
@@ -70,19 +70,19 @@ fn is_right(alloc: Global, journal: &Journal, number: u64) -> Result<bool, Alloc
 }
 
 /// The first commit after which the journal differs, or is no history of the tables.
-fn fold<H: Host>(host: H, alloc: Global, opened: Opened<Channel>) -> Result<Option<u64>, Fail>
-    requires { opened ≡ H.book }
+fn fold<H: Host>(host: H, alloc: Global, opened: Opened) -> Result<Option<u64>, Fail>
+    requires { opened ≡ H.books }
 {
     let limits = Limits {
         journal: 16,
         ..LIMITS
     };
-    let shared = Shared::new(Book::new(host, alloc, opened, limits)?, 2);
+    let shared = Shared::new(Book::new(host, alloc, opened, limits)?, Room::of(2));
     fold_in(&host, alloc, &shared)
 }
 
 fn fold_in<H: Host>(host: &H, alloc: Global, shared: &Shared<H>) -> Result<Option<u64>, Fail> {
-    let (seat, _inbox) = shared.join(host).map_err(|_| "join")?;
+    let (seat, _inbox) = shared.join(host, &mut shared.seen()).map_err(|_| "join")?;
     let mut book = shared.hold(host);
     commit_differs(&mut book, alloc, seat.session())
 }
@@ -106,9 +106,9 @@ fn commit_differs<H: Host>(
 fn fold_named<J: Naming, R: Wait + Copy>(
     rt: R,
     alloc: Global,
-    opened: Opened<Channel>,
+    opened: Opened,
 ) -> Result<Option<u64>, Fail>
-    requires { opened ≡ J.book }
+    requires { opened ≡ J.books }
 {
     fold((rt, PhantomData::<J>), alloc, opened)
 }

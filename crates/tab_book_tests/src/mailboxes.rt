@@ -10,7 +10,7 @@ use std::test::*;
 use std::thread::{Threads, join};
 use tab_lists::EventTerms;
 use tab_outbox::{Item, Mailbox, Met, Post, Refused, SharedItem};
-use tab_post::{Channel, ChannelPost, Host, Inbox, Naming, NewMailbox, Opened};
+use tab_post::{Channel, ChannelPost, Host, Inbox, Naming, NewMailbox, Opened, Room};
 
 /// Items are batches without events, known by their commits.
 enum Call {
@@ -148,10 +148,13 @@ fn make_calls<H: Host>(
     alloc: Global,
     opened: Opened<Channel>,
 ) -> Result<Option<usize>, AllocError>
-    requires { opened ≡ H.book }
+    requires { opened ≡ H.books.mailboxes }
 {
     let (register, mut prefix) = opened.named::<H>();
-    let (first, second) = (NewMailbox::new(alloc, 2)?, NewMailbox::new(alloc, 2)?);
+    let (first, second) = (
+        NewMailbox::new(alloc, Room::of(2))?,
+        NewMailbox::new(alloc, Room::of(2))?,
+    );
     let (mut post, mut inbox) = first.enter(&register, &mut prefix, rt);
     let (mut other, mut others) = second.enter(&register, &mut prefix, rt);
     let differs = call_differs(alloc, &mut post, &mut other, &mut inbox, &mut others);
@@ -202,7 +205,7 @@ fn make_named_calls<J: Naming, R: Wait + Copy>(
     alloc: Global,
     opened: Opened<Channel>,
 ) -> Result<Option<usize>, AllocError>
-    requires { opened ≡ J.book }
+    requires { opened ≡ J.books.mailboxes }
 {
     make_calls((rt, PhantomData::<J>), alloc, opened)
 }
@@ -242,10 +245,10 @@ fn exchange<H: Host + Threads + Abort + Send + Sync>(
     alloc: Global,
     opened: Opened<Channel>,
 ) -> Result<(), AllocError>
-    requires { opened ≡ H.book }
+    requires { opened ≡ H.books.mailboxes }
 {
     let (register, mut prefix) = opened.named::<H>();
-    let (post, inbox) = NewMailbox::new(alloc, 4)?.enter(&register, &mut prefix, rt);
+    let (post, inbox) = NewMailbox::new(alloc, Room::of(4))?.enter(&register, &mut prefix, rt);
     let (mut post, mut inbox) = join(
         &rt,
         move || put_all(rt, alloc, post),
@@ -260,7 +263,7 @@ fn exchange_named<J: Naming + Send + Sync, R: Wait + Threads + Abort + Copy + Se
     alloc: Global,
     opened: Opened<Channel>,
 ) -> Result<(), AllocError>
-    requires { opened ≡ J.book }
+    requires { opened ≡ J.books.mailboxes }
 {
     exchange((rt, PhantomData::<J>), alloc, opened)
 }

@@ -8,9 +8,9 @@ use std::alloc::{AllocError, Global};
 use std::marker::{Brand, PhantomData};
 use std::sync::Wait;
 use std::test::*;
-use tab_book::{Book, Shared};
+use tab_book::{Book, Opened, Shared};
 use tab_model::{Command, Reply};
-use tab_post::{Channel, Host, Inbox, Naming, Opened};
+use tab_post::{Host, Inbox, Naming, Room};
 
 /// The numbers of three commits, which begin after a begin marker that is taken, and the reader's items then, in turn.
 static ROUNDS: [([u64; 3], [u64; 4]); 2] = [
@@ -98,15 +98,15 @@ fn rounds_are_right<C: Caller, W: Watcher>(
 }
 
 /// Three commits while nobody takes from a mailbox of two items, twice.
-fn overflow<H: Host>(host: H, alloc: Global, opened: Opened<Channel>) -> Result<bool, Fail>
-    requires { opened ≡ H.book }
+fn overflow<H: Host>(host: H, alloc: Global, opened: Opened) -> Result<bool, Fail>
+    requires { opened ≡ H.books }
 {
-    let shared = Shared::new(Book::new(host, alloc, opened, LIMITS)?, 2);
+    let shared = Shared::new(Book::new(host, alloc, opened, LIMITS)?, Room::of(2));
     overflow_in(&host, alloc, &shared)
 }
 
 fn overflow_in<H: Host>(host: &H, alloc: Global, shared: &Shared<H>) -> Result<bool, Fail> {
-    let (seat, inbox) = shared.join(host).map_err(|_| "join")?;
+    let (seat, inbox) = shared.join(host, &mut shared.seen()).map_err(|_| "join")?;
     let writer = Client { host, shared, seat };
     overflow_of(alloc, &writer, inbox)
 }
@@ -118,7 +118,7 @@ fn overflow_of<H: Host>(
     others: Inbox<H>,
 ) -> Result<bool, Fail> {
     let (host, shared) = (writer.host, writer.shared);
-    let (seat, inbox) = shared.join(host).map_err(|_| "join")?;
+    let (seat, inbox) = shared.join(host, &mut shared.seen()).map_err(|_| "join")?;
     let reader = Client { host, shared, seat };
     let mut other = Taking {
         host,
@@ -133,16 +133,16 @@ fn overflow_of<H: Host>(
         inbox,
     };
     let right = rounds_are_right(alloc, writer, &reader, &mut watcher, &mut other);
-    shared.leave(host, &seat);
+    shared.leave(host, &seat, &mut shared.seen());
     Ok(right == Ok(true) && watcher.shown() == LEFT)
 }
 
 fn overflow_named<J: Naming, R: Wait + Copy>(
     rt: R,
     alloc: Global,
-    opened: Opened<Channel>,
+    opened: Opened,
 ) -> Result<bool, Fail>
-    requires { opened ≡ J.book }
+    requires { opened ≡ J.books }
 {
     overflow((rt, PhantomData::<J>), alloc, opened)
 }

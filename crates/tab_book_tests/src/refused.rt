@@ -10,9 +10,9 @@ use std::alloc::{AllocError, Global};
 use std::marker::{Brand, PhantomData};
 use std::sync::Wait;
 use std::test::*;
-use tab_book::{Book, JoinFault, Seat, Shared};
+use tab_book::{Book, JoinFault, Opened, Seat, Shared};
 use tab_model::{Command, Limits, Reply};
-use tab_post::{Channel, Host, Inbox, Naming, Opened};
+use tab_post::{Host, Inbox, Naming, Room};
 
 /// The commands of the writer and of the watcher.
 #[derive(Clone, Copy)]
@@ -74,8 +74,8 @@ fn number(reply: &Reply) -> u64 {
 }
 
 fn join<H: Host>(host: &H, shared: &Shared<H>) -> Result<(Seat, Inbox<H>), JoinFault> {
-    match shared.join(host) {
-        Err(JoinFault::NoMemory) => shared.join(host),
+    match shared.join(host, &mut shared.seen()) {
+        Err(JoinFault::NoMemory) => shared.join(host, &mut shared.seen()),
         joined => joined,
     }
 }
@@ -109,15 +109,15 @@ fn is_history<H: Host>(host: &H, shared: &Shared<H>) -> Result<bool, AllocError>
 
 /// The first step whose reply differs, or of the watcher's items the first that differs, numbered after the steps; None
 /// if all is right.
-fn differs<H: Host>(host: H, alloc: Global, opened: Opened<Channel>) -> Result<Option<usize>, Fail>
-    requires { opened ≡ H.book }
+fn differs<H: Host>(host: H, alloc: Global, opened: Opened) -> Result<Option<usize>, Fail>
+    requires { opened ≡ H.books }
 {
     let limits = Limits {
         journal: ENTRIES as u64,
         ..LIMITS
     };
     let book = Book::new(host, alloc, opened, limits).map_err(|_| "no book")?;
-    differs_in(&host, alloc, &Shared::new(book, 3))
+    differs_in(&host, alloc, &Shared::new(book, Room::of(3)))
 }
 
 fn differs_in<H: Host>(host: &H, alloc: Global, shared: &Shared<H>) -> Result<Option<usize>, Fail> {
@@ -183,9 +183,9 @@ fn shown_differs<W: Watcher>(watcher: &mut W) -> Option<usize> {
 fn differs_named<J: Naming, R: Wait + Copy>(
     rt: R,
     alloc: Global,
-    opened: Opened<Channel>,
+    opened: Opened,
 ) -> Result<Option<usize>, Fail>
-    requires { opened ≡ J.book }
+    requires { opened ≡ J.books }
 {
     differs((rt, PhantomData::<J>), alloc, opened)
 }

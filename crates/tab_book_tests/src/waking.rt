@@ -9,9 +9,9 @@ use std::alloc::{AllocError, Global};
 use std::marker::{Brand, PhantomData};
 use std::sync::Wait;
 use std::test::*;
-use tab_book::{Answered, Book, Seat, Shared, Step};
+use tab_book::{Answered, Book, Opened, Seat, Shared, Step};
 use tab_model::{Command, Reply};
-use tab_post::{Channel, Host, Inbox, Naming, Opened};
+use tab_post::{Host, Inbox, Naming, Room};
 use tab_term::Term;
 
 /// A command of a session.
@@ -82,14 +82,10 @@ fn stepped<H: Host>(
 }
 
 /// The first step that differs.
-fn make_steps<H: Host>(
-    host: H,
-    alloc: Global,
-    opened: Opened<Channel>,
-) -> Result<Option<usize>, Fail>
-    requires { opened ≡ H.book }
+fn make_steps<H: Host>(host: H, alloc: Global, opened: Opened) -> Result<Option<usize>, Fail>
+    requires { opened ≡ H.books }
 {
-    let shared = Shared::new(Book::new(host, alloc, opened, LIMITS)?, 64);
+    let shared = Shared::new(Book::new(host, alloc, opened, LIMITS)?, Room::of(64));
     make_steps_in(&host, alloc, &shared)
 }
 
@@ -112,7 +108,7 @@ fn join_and_step<H: Host>(
 ) -> Result<Option<usize>, Fail> {
     join_all(host, shared, 3, sessions, inboxes)?;
     let first = *sessions.first().ok_or("no seat")?;
-    shared.call(host, &first, create(alloc)?)?;
+    shared.call(host, &first, create(alloc)?, &mut shared.seen())?;
     step_differs(host, alloc, shared, sessions)
 }
 
@@ -134,9 +130,9 @@ fn step_differs<H: Host>(
 fn make_named_steps<J: Naming, R: Wait + Copy>(
     rt: R,
     alloc: Global,
-    opened: Opened<Channel>,
+    opened: Opened,
 ) -> Result<Option<usize>, Fail>
-    requires { opened ≡ J.book }
+    requires { opened ≡ J.books }
 {
     make_steps((rt, PhantomData::<J>), alloc, opened)
 }

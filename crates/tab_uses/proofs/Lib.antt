@@ -1,3 +1,4 @@
+pub mod MailboxLemmas
 pub mod MirrorsLemmas
 pub mod OutboxesLemmas
 pub mod SpellingLemmas

@@ -41,7 +41,7 @@ pub fn write_alone<H: Host>(
 ) -> Result<Ending, AllocError>
     ensures { attempts ≡ 0 → IfOk result (λ e. IsFalse (is_commit e)) }
 {
-    let begun = shared.call(host, seat, Command::Begin)?;
+    let begun = shared.call(host, seat, Command::Begin, &mut shared.seen())?;
     if !matches!(begun.reply(), Reply::Tid(_)) {
         return Ok(Ending::Refusal);
     }
@@ -64,7 +64,7 @@ fn ending_of<H: Host>(
 {
     for _ in 0..attempts {
         let write = Command::Do(Operation::Write(row.try_clone(alloc)?));
-        match shared.call(host, seat, write)?.reply() {
+        match shared.call(host, seat, write, &mut shared.seen())?.reply() {
             Reply::Done => return commit(host, shared, seat),
             Reply::Restart => {
                 shared.rest(host, seat, NAPS);
@@ -76,7 +76,10 @@ fn ending_of<H: Host>(
 }
 
 fn commit<H: Host>(host: &H, shared: &Shared<H>, seat: &Seat) -> Result<Ending, AllocError> {
-    match shared.call(host, seat, Command::Commit)?.reply() {
+    match shared
+        .call(host, seat, Command::Commit, &mut shared.seen())?
+        .reply()
+    {
         Reply::Atomic(number) => Ok(Ending::Commit(*number)),
         _ => Ok(Ending::Refusal),
     }
@@ -84,7 +87,7 @@ fn commit<H: Host>(host: &H, shared: &Shared<H>, seat: &Seat) -> Result<Ending, 
 
 /// Ends the transaction, if one is open. No memory is needed for it: an abort is never refused.
 fn give_up<H: Host>(host: &H, shared: &Shared<H>, seat: &Seat) {
-    match shared.step(host, seat, Command::Abort(Term::Int(0))) {
+    match shared.step(host, seat, Command::Abort(Term::Int(0)), &mut shared.seen()) {
         Ok(told) => drop(told),
         Err(_) => unreachable!(),
     }

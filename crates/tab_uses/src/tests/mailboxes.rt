@@ -13,7 +13,7 @@ use tab_term::Atom;
 
 /// Returns whether the end mark of a table comes out.
 fn comes_out<H: Host>(rt: H, alloc: Global, opened: Opened<Channel>) -> Result<bool, Fail>
-    requires { opened ≡ H.book }
+    requires { opened ≡ H.books.mailboxes }
 {
     let (register, mut prefix) = opened.named();
     let mark = Item::Ended(Atom::from_short_text(alloc, "t")?, Ending::Deleted);
@@ -30,7 +30,7 @@ fn named_comes_out<J: Naming, R: Wait + Copy>(
     alloc: Global,
     opened: Opened<Channel>,
 ) -> Result<bool, Fail>
-    requires { opened ≡ J.book }
+    requires { opened ≡ J.books.mailboxes }
 {
     comes_out((rt, PhantomData::<J>), alloc, opened)
 }

@@ -7,10 +7,10 @@ use std::alloc::{AllocError, Global};
 use std::marker::{Brand, PhantomData};
 use std::sync::Wait;
 use std::test::*;
-use tab_book::{Book, Seat, Shared};
+use tab_book::{Book, Opened, Seat, Shared};
 use tab_etf::decode;
 use tab_model::{Command, Limits, Operation, Schema};
-use tab_post::{Channel, Host, Naming, Opened};
+use tab_post::{Host, Naming, Room};
 use tab_term::{Atom, Term, Terms};
 
 static LIMITS: Limits = Limits {
@@ -43,14 +43,10 @@ fn read(alloc: Global) -> Result<Command, AllocError> {
 }
 
 /// The first write that ends otherwise.
-fn ending_differs<H: Host>(
-    host: H,
-    alloc: Global,
-    opened: Opened<Channel>,
-) -> Result<Option<usize>, Fail>
-    requires { opened ≡ H.book }
+fn ending_differs<H: Host>(host: H, alloc: Global, opened: Opened) -> Result<Option<usize>, Fail>
+    requires { opened ≡ H.books }
 {
-    let shared = Shared::new(Book::new(host, alloc, opened, LIMITS)?, 64);
+    let shared = Shared::new(Book::new(host, alloc, opened, LIMITS)?, Room::of(64));
     ending_differs_in(&host, alloc, &shared)
 }
 
@@ -59,8 +55,8 @@ fn ending_differs_in<H: Host>(
     alloc: Global,
     shared: &Shared<H>,
 ) -> Result<Option<usize>, Fail> {
-    let (reader, _inbox) = shared.join(host).map_err(|_| "join")?;
-    let (writer, _inbox) = shared.join(host).map_err(|_| "join")?;
+    let (reader, _inbox) = shared.join(host, &mut shared.seen()).map_err(|_| "join")?;
+    let (writer, _inbox) = shared.join(host, &mut shared.seen()).map_err(|_| "join")?;
     read_and_write(host, alloc, shared, &reader, &writer)
 }
 
@@ -71,9 +67,9 @@ fn read_and_write<H: Host>(
     reader: &Seat,
     writer: &Seat,
 ) -> Result<Option<usize>, Fail> {
-    shared.call(host, reader, create(alloc)?)?;
-    shared.call(host, reader, Command::Begin)?;
-    shared.call(host, reader, read(alloc)?)?;
+    shared.call(host, reader, create(alloc)?, &mut shared.seen())?;
+    shared.call(host, reader, Command::Begin, &mut shared.seen())?;
+    shared.call(host, reader, read(alloc)?, &mut shared.seen())?;
     write_differs(host, alloc, shared, writer)
 }
 
@@ -95,9 +91,9 @@ fn write_differs<H: Host>(
 fn named_ending_differs<J: Naming, R: Wait + Copy>(
     rt: R,
     alloc: Global,
-    opened: Opened<Channel>,
+    opened: Opened,
 ) -> Result<Option<usize>, Fail>
-    requires { opened ≡ J.book }
+    requires { opened ≡ J.books }
 {
     ending_differs((rt, PhantomData::<J>), alloc, opened)
 }

@@ -24,7 +24,7 @@ returns g c =
     let made : HasMadeRoom old c.if-full.self n a = elim c.if-full.branch [
       | then-full+then-may_enter+in_ok-make_room w ↦
           let room = w.in_ok-make_room.ensures in
-          subst (λ (b : Running). HasMadeRoom old b n a) (sym w.self-is) (room_made old w.make_room.new.self n a (sym w.if-may_enter.ensures) room.state room.folds room.room)
+          subst (λ (b : Running). HasMadeRoom old b n a) (sym w.self-is) (room_made old w.make_room.new.self n a (sym w.if-may_enter.ensures) room.state room.log room.folds room.room)
       | else-full w ↦
           let none : has_to_fold old.state n a old.journal ≡ false = elim w.else-full.branch [
             | else-full-via-then-full+else-may_enter w' ↦ nothing_entered (is_full old.journal) (may_enter old.state n a) (sym w'.if-may_enter.ensures)

@@ -15,4 +15,5 @@ loop-self-preserved g c =
       one_more_fold old.state old.journal now.journal c.fold.new.self.journal c.loop-self.invariant.1
           (ap (λ (b : Running). is_full b.journal) (sym c.self.view_is) ∙ sym c.loop-self-test.ensures)
           (ap (λ (b : Running). b.journal) made ∙ ap (λ (σ : State). folded σ now.journal) c.loop-self.invariant.0),
+      ap (λ (b : Running). b.log) made ∙ c.loop-self.invariant.2,
     )
