@@ -1,8 +1,10 @@
 //! One-shots on a session that is played.
+ghost use Rattle.std.specs.Prelude.{◌≡◌, IfOk};
+
 use super::played::Played;
 use std::alloc::{AllocError, Global};
 use tab_model::{Command, Operation, Part, Parts};
-use tab_oneshot::one_shot;
+use tab_oneshot::{Source, one_shot};
 use tab_proto::append_reply;
 use tab_term::Term;
 use tab_test_tools::atom;
@@ -476,6 +478,44 @@ fn parts_of(alloc: Global, list: &[u8]) -> Result<Parts, AllocError> {
     Parts::new(alloc, items)
 }
 
+/// Parts that are kept, of which a restart gets copies.
+#[derive(Drop)]
+struct Kept {
+    alloc: Global,
+    parts: Vec<Part>,
+}
+
+impl Source for Kept {
+    ghost use Rattle.std.specs.Prelude.{◌≡◌};
+
+    ghost gives = { λ x parts. x.parts.items ≡ parts };
+
+    fn again(&self) -> Result<Vec<Part>, AllocError> {
+        copies(self.alloc, self.parts.as_slice())
+    }
+}
+
+fn copy(alloc: Global, part: &Part) -> Result<Part, AllocError>
+    ensures { IfOk result (λ copy. copy ≡ part.now) }
+{
+    match part {
+        Part::Do(operation) => Ok(Part::Do(operation.try_clone(alloc)?)),
+        Part::Abort(reason) => Ok(Part::Abort(reason.try_clone(alloc)?)),
+        Part::Open => Ok(Part::Open),
+        Part::Close => Ok(Part::Close),
+    }
+}
+
+fn copies(alloc: Global, parts: &[Part]) -> Result<Vec<Part>, AllocError>
+    ensures { IfOk result (λ copies. copies.items ≡ parts.now) }
+{
+    let mut copies = Vec::new(alloc);
+    for part in parts {
+        copies.push(copy(alloc, part)?)?;
+    }
+    Ok(copies)
+}
+
 /// Returns whether the session was asked and the reply made as the case says.
 fn is_right(alloc: Global, case: &Case) -> Result<bool, AllocError> {
     let mut slot = Played {
@@ -488,8 +528,12 @@ fn is_right(alloc: Global, case: &Case) -> Result<bool, AllocError> {
         differs: false,
     };
     let parts = parts_of(alloc, case.list.as_bytes())?;
+    let kept = Kept {
+        alloc,
+        parts: copies(alloc, parts.as_slice())?,
+    };
     let command = Command::OneShot(parts, case.retries);
-    let reply = one_shot(&mut slot, alloc, &command);
+    let reply = one_shot(&mut slot, alloc, command, &kept);
     let mut frame = Vec::new(alloc);
     let is_put = append_reply(None, reply.reply(), &mut frame).is_ok();
     // After the length, 131, and `{reply, ..`.

@@ -2,10 +2,15 @@
 use Rattle.std.proofs.Common.{◌≡◌, ◌≢◌, ℕ, suc, List, [], ◌∷◌, ◌++◌, length, refl, sym, ap, subst, ◌∙◌, inl, inr, true}
 use Rattle.std.specs.Prelude.{Option}
 use Rattle.tab_term.specs.Data.{PlainTerms}
+use Rattle.tab_term.specs.declared.term.Term.{Term}
+use Rattle.tab_model.specs.declared.data.Operation.{Operation}
 use Rattle.tab_model.specs.declared.data.Part.{Part}
+use Rattle.tab_model.specs.declared.data.Part.TheVariants as part
 use Rattle.tab_model.specs.declared.data.Command.{Command}
+use Rattle.tab_model.specs.declared.data.Command.TheVariants as command
 use Rattle.tab_model.specs.declared.data.Reply.{Reply}
 use Rattle.tab_model.specs.declared.data.Reply.TheVariants as reply
+use Rattle.tab_model.specs.Parts.{command_of}
 use Rattle.tab_oneshot.specs.declared.answer.Sort.{Sort}
 use Rattle.tab_oneshot.specs.declared.answer.Sort.TheVariants as sort
 use Rattle.tab_oneshot.specs.declared.turn.Turn as code
@@ -47,3 +52,16 @@ module _ {W : Type 0} (shows : W → List Call → W → Type 0) where
 pub no_wait : (s : Sort) (q : Reply) (levels : List PlainTerms) (calls : List Call) (turn : Turn) → s ≢ sort.Waits → AfterOperation s q levels calls turn → AfterAsked s q levels calls turn
 no_wait sort.Waits q levels calls turn n a = absurd (n refl)
 no_wait s q levels calls turn n a = a
+
+-- the part that is handed in as an operation, or as an abort
+pub part_of_operation : (p : Part) (o : Operation) → command_of p ≡ command.Do o → p ≡ part.Do o
+part_of_operation (part.Do q) o e = cc
+part_of_operation (part.Abort r) o e = absurd cc
+part_of_operation part.Open o e = absurd cc
+part_of_operation part.Close o e = absurd cc
+
+pub part_of_abort : (p : Part) (r : Term) → command_of p ≡ command.Abort r → p ≡ part.Abort r
+part_of_abort (part.Do q) r e = absurd cc
+part_of_abort (part.Abort q) r e = cc
+part_of_abort part.Open r e = absurd cc
+part_of_abort part.Close r e = absurd cc

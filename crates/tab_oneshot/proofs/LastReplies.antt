@@ -13,7 +13,7 @@ use Rattle.tab_oneshot.specs.declared.answer.Sort.{Sort}
 use Rattle.tab_oneshot.specs.declared.answer.Sort.TheVariants as sort
 use Rattle.tab_oneshot.specs.Calls.{Call, Asked, Waited, Again, agains}
 use Rattle.tab_oneshot.specs.Attempts.{sort_of, Ended, Ends, Turn, GoesOn, IsOver, Restarts, AsItIs, Stops, Puts, LevelEnds, AfterOperation, AfterWait, AfterAsked, AfterAbort, AfterBegin, Joins, AfterInner, AfterCommit, HandsIn, Serves, passed, Goes, IsAttempt}
-use Rattle.tab_oneshot.specs.OneShots.{Follows, Runs, Opens, IsOneShot}
+use Rattle.tab_oneshot.specs.OneShots.{Follows, IsTried, Runs, Opens, IsOneShot}
 
 agains_join : (xs ys : List Call) → agains (xs ++ ys) ≡ agains xs + agains ys
 agains_join [] ys = omega arith
@@ -186,13 +186,17 @@ module _ (P : Reply → Type 0) where
         by_turn Restarts then_goes (e, f) = nothing 0 rest e (λ p. subst Awaited (sym f) tt)
     attempted (p ∷ parts) (suc n) levels calls ending h = attempted parts (passed p n) levels calls ending h
 
+    tried : (parts : List Part) (calls : List Call) (ending : Option Reply) → IsTried parts calls ending → Leads 0 calls (Awaited ending)
+    tried parts calls ending (inl h) = attempted parts 0 _ calls ending h
+    tried parts calls ending (inr (last, h, f)) = to 0 calls (λ k. subst Awaited (sym f) (k own.no_memory)) (ends 1 reply.NoMemory calls last h)
+
     ran : (parts : List Part) (retries : ℕ) (calls : List Call) (last : Reply) → Runs parts retries calls last → Leads retries calls (P last)
-    ran parts zero calls last (first, rest, ending, e, h, more) = join 0 calls first rest e (attempted parts 0 _ first ending h) (by_ending ending more)
+    ran parts zero calls last (first, rest, ending, e, h, more) = join 0 calls first rest e (tried parts first ending h) (by_ending ending more)
       where
         by_ending : (o : Option Reply) → Follows (λ ys r. Ends 1 reply.NoMore ys r) o rest last → Leads 0 rest (Awaited o → P last)
         by_ending (Some r) (e, f) = nothing 0 rest e (λ p. subst P (sym f) p)
         by_ending None h = to 0 rest (λ k p. k own.no_more) (ends 1 reply.NoMore rest last h)
-    ran parts (suc n) calls last (first, rest, ending, e, h, more) = join (suc n) calls first rest e (attempted parts 0 _ first ending h) (by_ending ending (λ ys. ran parts n ys last) more)
+    ran parts (suc n) calls last (first, rest, ending, e, h, more) = join (suc n) calls first rest e (tried parts first ending h) (by_ending ending (λ ys. ran parts n ys last) more)
       where
         anew : (ys : List Call) → rest ≡ Again ∷ ys → Leads n ys (P last) → Leads (suc n) rest (Unit {0} → P last)
         anew ys e l = subst (λ cs. Leads (suc n) cs (Unit {0} → P last)) (sym e) (record { count = omega (arith, l.count); handed = l.handed; gives = λ a p. l.gives a })

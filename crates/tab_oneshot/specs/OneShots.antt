@@ -16,15 +16,24 @@ abbrev pub is_one_shot : Command → Bool
 is_one_shot (command.OneShot parts retries) = true
 is_one_shot c = false
 
+-- the parts of the command, if it is a one-shot, are those of this kind
+abbrev pub IsFrom : (List Part → Type 0) → Command → Type 0
+IsFrom Gives (command.OneShot parts retries) = Gives parts
+IsFrom Gives c = Unit {0}
+
 -- what follows an attempt: its reply is the last, or it was restarted
 abbrev pub Follows : (List Call → Reply → Type 0) → Option Reply → List Call → Reply → Type 0
 Follows Anew (Some r) calls last = (calls ≡ []) × (last ≡ r)
 Follows Anew None calls last = Anew calls last
 
--- an attempt over all parts, and what follows it
+-- an attempt over all parts; or memory for them was refused, and level 1 is ended
+abbrev pub IsTried : List Part → List Call → Option Reply → Type 0
+IsTried parts calls ending = IsAttempt parts 0 (none ∷ []) calls ending ⊎ ((last : Reply) × Ends 1 reply.NoMemory calls last × (ending ≡ Some last))
+
+-- an attempt, and what follows it
 abbrev pub Tries : List Part → (List Call → Reply → Type 0) → List Call → Reply → Type 0
 Tries parts Anew calls last =
-    (first rest : List Call) × (ending : Option Reply) × (calls ≡ first ++ rest) × IsAttempt parts 0 (none ∷ []) first ending × Follows Anew ending rest last
+    (first rest : List Call) × (ending : Option Reply) × (calls ≡ first ++ rest) × IsTried parts first ending × Follows Anew ending rest last
 
 -- at most so many restarts lead to one more attempt; after the next, level 1 is ended, and the reply is {aborted, nomore}
 abbrev pub Runs : List Part → ℕ → List Call → Reply → Type 0

@@ -39,20 +39,20 @@ fn commit<S: Steps>(steps: &mut S, alloc: Global, levels: &mut DriverLevels) -> 
     }
 }
 
-/// The reply, or None of an attempt that was restarted.
+/// Hands the parts in, none of which is copied. The reply, or None of an attempt that was restarted.
 pub fn attempt<S: Steps>(
     steps: &mut S,
     alloc: Global,
-    parts: &[Part],
+    parts: Vec<Part>,
     levels: &mut DriverLevels,
 ) -> Option<SharedReply>
     ensures { (more : List Call) × S.shows steps.old more steps.new
-        × IsAttempt parts.now 0 levels.old more result }
+        × IsAttempt parts.items 0 levels.old more result }
 {
     let mut skipped = 0;
     for part in parts {
         if skipped > 0 {
-            skipped = passed(part, skipped);
+            skipped = passed(&part, skipped);
         } else {
             match serve(steps, alloc, part, levels) {
                 Turn::GoOn => {}

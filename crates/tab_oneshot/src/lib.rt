@@ -9,9 +9,11 @@ mod driver;
 mod laws;
 mod levels;
 mod parts;
+mod source;
 mod steps;
 mod turn;
 
 pub use driver::one_shot;
 pub use laws::attempts_are_limited;
+pub use source::Source;
 pub use steps::Steps;

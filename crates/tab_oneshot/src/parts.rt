@@ -1,7 +1,6 @@
 //! One part of an attempt: the command that is sent for it, and the effect of its answer.
 
-ghost use Rattle.std.specs.Prelude.{◌≡◌, ◌∷◌, [], List, IsTrue, IfOk, OnOk};
-ghost use Rattle.tab_model.specs.declared.data.Command.TheVariants as command;
+ghost use Rattle.std.specs.Prelude.{◌≡◌, ◌∷◌, [], List, IsTrue, OnOk};
 ghost use Rattle.tab_model.specs.declared.data.Part.TheVariants as part;
 ghost use Rattle.tab_model.specs.declared.data.Reply.TheVariants as reply;
 ghost use Rattle.tab_term.specs.Data.{PlainTerms};
@@ -133,32 +132,19 @@ fn after_wait<S: Steps>(
     }
 }
 
-/// The command of an operation, and the place of its answer.
-fn operation(
-    alloc: Global,
-    operation: &Operation,
-    levels: &mut DriverLevels,
-) -> Result<Command, AllocError>
-    ensures ok { IfOk result (λ c. c ≡ command.Do operation.now) }
-    ensures same { levels.new ≡ levels.old }
-{
-    levels.reserve()?;
-    Ok(Command::Do(operation.try_clone(alloc)?))
-}
-
 fn operate<S: Steps>(
     steps: &mut S,
     alloc: Global,
-    asked: &Operation,
+    asked: Operation,
     levels: &mut DriverLevels,
 ) -> Turn
     ensures { (more : List Call) × S.shows steps.old more steps.new
-        × Serves (part.Do asked.now) levels.old more (turn_of result levels.new) }
+        × Serves (part.Do asked) levels.old more (turn_of result levels.new) }
 {
-    let Ok(command) = operation(alloc, asked, levels) else {
+    if levels.reserve().is_err() {
         return stop(steps, levels.around(), OneShotAnswer::no_memory());
-    };
-    let answer = ask(steps, command);
+    }
+    let answer = ask(steps, Command::Do(asked));
     match answer.sort() {
         Sort::Waits => {
             let waited = wait(steps);
@@ -168,23 +154,14 @@ fn operate<S: Steps>(
     }
 }
 
-/// The command of an abort, and the place of its answer.
-fn abort_of(alloc: Global, reason: &Term, levels: &mut DriverLevels) -> Result<Command, AllocError>
-    ensures ok { IfOk result (λ c. c ≡ command.Abort reason.now) }
-    ensures same { levels.new ≡ levels.old }
-{
-    levels.reserve()?;
-    Ok(Command::Abort(reason.try_clone(alloc)?))
-}
-
-fn abort<S: Steps>(steps: &mut S, alloc: Global, reason: &Term, levels: &mut DriverLevels) -> Turn
+fn abort<S: Steps>(steps: &mut S, alloc: Global, reason: Term, levels: &mut DriverLevels) -> Turn
     ensures { (more : List Call) × S.shows steps.old more steps.new
-        × Serves (part.Abort reason.now) levels.old more (turn_of result levels.new) }
+        × Serves (part.Abort reason) levels.old more (turn_of result levels.new) }
 {
-    let Ok(command) = abort_of(alloc, reason, levels) else {
+    if levels.reserve().is_err() {
         return stop(steps, levels.around(), OneShotAnswer::no_memory());
-    };
-    let answer = ask(steps, command);
+    }
+    let answer = ask(steps, Command::Abort(reason));
     match answer.sort() {
         Sort::Aborted => end_level(steps, alloc, answer, levels),
         Sort::Refused => stop(steps, levels.around(), answer),
@@ -239,14 +216,14 @@ fn commit<S: Steps>(steps: &mut S, levels: &mut DriverLevels) -> Turn
 }
 
 /// Hands a part in.
-pub fn serve<S: Steps>(steps: &mut S, alloc: Global, part: &Part, levels: &mut DriverLevels) -> Turn
+pub fn serve<S: Steps>(steps: &mut S, alloc: Global, part: Part, levels: &mut DriverLevels) -> Turn
     ensures { (more : List Call) × S.shows steps.old more steps.new
-        × Serves part.now levels.old more (turn_of result levels.new) }
+        × Serves part levels.old more (turn_of result levels.new) }
 {
-    match part {
-        Part::Do(operation) => operate(steps, alloc, operation, levels),
-        Part::Abort(reason) => abort(steps, alloc, reason, levels),
-        Part::Open => begin(steps, alloc, levels),
-        Part::Close => commit(steps, levels),
+    match part.into_command() {
+        Command::Do(operation) => operate(steps, alloc, operation, levels),
+        Command::Abort(reason) => abort(steps, alloc, reason, levels),
+        Command::Begin => begin(steps, alloc, levels),
+        _ => commit(steps, levels),
     }
 }

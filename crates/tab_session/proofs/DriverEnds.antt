@@ -29,7 +29,7 @@ use Rattle.tab_oneshot.specs.declared.answer.Sort.TheVariants as sort
 use Rattle.tab_oneshot.specs.Attempts.{sort_of}
 use Rattle.tab_oneshot.specs.Calls.{Call, Asked}
 use Rattle.tab_oneshot.specs.Attempts.{Ended, Ends, Turn, GoesOn, IsOver, Restarts, Stops, Puts, LevelEnds, AfterOperation, AfterWait, AfterAsked, AfterAbort, AfterBegin, Joins, AfterInner, AfterCommit, HandsIn, Serves, passed, Goes, IsAttempt, told, innermost}
-use Rattle.tab_oneshot.specs.OneShots.{Follows, Tries, Runs, Opens, IsRun}
+use Rattle.tab_oneshot.specs.OneShots.{Follows, IsTried, Tries, Runs, Opens, IsRun}
 use Rattle.tab_session.specs.OneSessions.{Ran, IsDriven}
 use Rattle.tab_session.specs.PartsAlone as alone
 use Rattle.tab_session.specs.PartsAlone.{run_on, run_alone}
@@ -279,10 +279,18 @@ module _ (n : ℕ) (w : Catalog) (k a : ℕ) where
     abbrev Comes : Reply → State → Type 0
     Comes r μ = Replied (run_alone parts w a) r μ
 
+    -- an attempt, or level 1 is ended since memory for the parts was refused
+    tried_once : (σ : State) (calls : List Call) (ending : Option Reply) (ν : State) → Inside n w k a (start w a) σ → IsTried parts calls ending → Ran n σ calls ν → Attempted (run_alone parts w a) ending ν
+    tried_once σ calls ending ν i (inl h) ran = attempted parts 0 (none ∷ []) (run_alone parts w a) σ calls ending ν (record { m = start w a; inside = i; length_is = refl; alone_is = refl; nested = nested }) h ran
+    tried_once σ calls ending ν i (inr (last, h, is)) ran = subst (λ (o : Option Reply). Attempted (run_alone parts w a) o ν) (sym is) (refused (ends [] (start w a) σ reply.NoMemory calls last ν refl i.stands h ran))
+      where
+        refused : Over reply.NoMemory last ν → Comes last ν
+        refused over = inr (subst (λ (x : Reply). is_atomic x ≡ false) (sym over.0) refl, over.1)
+
     tried : (Anew : List Call → Reply → Type 0) (σ : State) (calls : List Call) (last : Reply) (ν : State) → Inside n w k a (start w a) σ
         → ((μ : State) (rest : List Call) → Inside n w k a (start w a) μ → Anew rest last → Ran n μ rest ν → Comes last ν) → Tries parts Anew calls last → Ran n σ calls ν → Comes last ν
     tried Anew σ calls last ν i anew (first, rest, ending, e, h, more) ran =
-        by_ending ending (attempted parts 0 (none ∷ []) (run_alone parts w a) σ first ending parted.0 (record { m = start w a; inside = i; length_is = refl; alone_is = refl; nested = nested }) h parted.1) more
+        by_ending ending (tried_once σ first ending parted.0 i h parted.1) more
       where
         parted : (μ : State) × Ran n σ first μ × Ran n μ rest ν
         parted = ran_split n σ ν first rest (subst (λ (cs : List Call). Ran n σ cs ν) e ran)

@@ -18,7 +18,7 @@ use Rattle.tab_oneshot.specs.declared.answer.Sort.TheVariants as sort
 use Rattle.tab_oneshot.specs.Calls.{Call, Asked, Waited, Again}
 use Rattle.tab_oneshot.specs.Attempts.{sort_of, Ended, Ends, Asks, Turn, GoesOn, IsOver, Restarts, AsItIs, Stops, Puts, LevelEnds, AfterOperation, AfterWait, AfterAsked, AfterAbort, AfterBegin, Joins, AfterInner, AfterCommit, HandsIn, Serves, passed, Goes, Commits, IsAttempt, told, innermost}
 use Rattle.tab_proto.specs.Replies.{reply_term}
-use Rattle.tab_oneshot.specs.OneShots.{Follows, Tries, Runs, Opens, IsRun}
+use Rattle.tab_oneshot.specs.OneShots.{Follows, IsTried, Tries, Runs, Opens, IsRun}
 use Rattle.tab_session.specs.OneSessions.{Ran, IsDriven}
 use Rattle.tab_oneshot.proofs.LastReplies.{is_handed}
 use Rattle.tab_session.specs.Bounded.{IsBounded}
@@ -289,8 +289,15 @@ module _ (n : ℕ) where
   tried : (parts : List Part) (Anew : List Call → Reply → Type 0) (σ : Held) → depth σ.now n ≡ 1 → ((μ : Held) → depth μ.now n ≡ 1 → OnceReplied μ Anew) → OnceReplied σ (Tries parts Anew)
   tried parts Anew σ e anew = first_then (follows k.value k.after k.keeps)
     where
-      k : OnceLeft σ (IsAttempt parts 0 (none ∷ []))
-      k = attempted parts 0 (none ∷ []) σ (sym e)
+      once : OnceLeft σ (IsAttempt parts 0 (none ∷ []))
+      once = attempted parts 0 (none ∷ []) σ (sym e)
+
+      k : OnceLeft σ (IsTried parts)
+      k = record { value = once.value; after = once.after; keeps = once.keeps; only = only }
+        where
+          only : (calls : List Call) (ending : Option Reply) (ν : State) → IsTried parts calls ending → Ran n σ.now calls ν → (ending ≡ Some reply.NoMemory) ⊎ (ending ≡ once.value) × (ν ≡ once.after.now)
+          only calls ending ν (inl h) ran = once.only calls ending ν h ran
+          only calls ending ν (inr (last, h, is)) ran = inl (is ∙ ap Some (refused_ends 1 σ (omega (arith, e)) calls last ν h ran))
 
       follows : (o : Option Reply) (μ : Held) → Left o μ → OnceReplied μ (Follows Anew o)
       follows (Some r) μ f = here reply.NoMemory Any μ r tt

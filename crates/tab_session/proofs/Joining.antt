@@ -7,7 +7,7 @@ use Rattle.tab_model.specs.declared.data.Reply.TheVariants as reply
 use Rattle.tab_model.specs.State.{State, Session, Outbox, session_at, transaction_at}
 use Rattle.tab_model.specs.Standing.{is_joined}
 use Rattle.tab_model.specs.declared.ask.Ask.TheVariants.{Join}
-use Rattle.tab_model.specs.Outcome.{Outcome, step_of, step_without_entry, outcome}
+use Rattle.tab_model.specs.Outcome.{step_of, step_without_entry, outcome}
 use Rattle.tab_core.specs.Steps.{tells_for_none}
 use Rattle.tab_session.specs.StepsMade.{IsJoinRefused, JoinTakesMemory}
 

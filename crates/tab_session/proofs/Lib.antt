@@ -12,3 +12,4 @@ mod WorkedOneShots
 mod RunLaws
 mod AccountsLemmas
 mod Joining
+pub mod Rereading

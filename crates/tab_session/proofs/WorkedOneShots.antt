@@ -20,7 +20,8 @@ use Rattle.tab_model.specs.Run.{Allowed, after_all}
 use Rattle.tab_model.proofs.Splits.{none_handed}
 use Rattle.tab_model.proofs.WorkedFixtures.{record_of, rec, usual, joins, creates, begins, commits, writes}
 use Rattle.tab_oneshot.specs.Calls.{Call, Asked, Again}
-use Rattle.tab_oneshot.specs.Attempts.{GoesOn, IsOver, Restarts, IsAttempt}
+use Rattle.tab_oneshot.specs.Attempts.{GoesOn, IsOver, Restarts}
+use Rattle.tab_oneshot.specs.OneShots.{IsTried}
 use Rattle.tab_session.specs.StepsMade.{StepMadeOrRefused}
 use Rattle.tab_session.specs.OneSessions.{IsDriven}
 use Rattle.tab_session.specs.PartsAlone.{run_alone}
@@ -125,7 +126,7 @@ row_inner_aborts = record {
       [],
       Some (reply.AtomicTerms three_answers),
       refl,
-      (
+      inl (
         Asked (command.Do write_a) reply.Done ∷ [],
         _,
         GoesOn 0 (one_more ok none ∷ []),
@@ -213,7 +214,7 @@ row_fails = record {
       [],
       Some (reply.NoTable (codes "nosuch")),
       refl,
-      (
+      inl (
         Asked (command.Do write_a) reply.Done ∷ [],
         _,
         GoesOn 0 (one_more ok none ∷ []),
@@ -321,8 +322,8 @@ row_nomore = record {
     first : List Call
     first = Asked (command.Do read) reply.Restart ∷ []
 
-    restarts : IsAttempt (part.Do read ∷ []) 0 (none ∷ []) first None
-    restarts = (first, [], Restarts, refl, inl (reply.Restart, [], refl, (refl, refl)), (refl, refl))
+    restarts : IsTried (part.Do read ∷ []) first None
+    restarts = inl (first, [], Restarts, refl, inl (reply.Restart, [], refl, (refl, refl)), (refl, refl))
 
 -- it holds no lock then, and waits for none
 pub row_no_lock : locks_held_by (transaction_at given_up 2) ≡ []

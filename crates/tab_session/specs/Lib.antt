@@ -4,5 +4,6 @@ pub mod PartsAlone
 pub mod SoleSessions
 pub mod AnsweredPayloads
 pub mod Replays
+pub mod Rereading
 pub mod Bounded
 pub mod Accounts

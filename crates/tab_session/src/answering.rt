@@ -1,7 +1,8 @@
 //! One payload, and how it is answered.
 
-ghost use Rattle.std.specs.Prelude.{◌≡◌, ◌++◌, ◌⊎◌, ℕ, [], MatchOption, MatchResult, OnOk, OnErr};
+ghost use Rattle.std.specs.Prelude.{◌≡◌, ◌++◌, ◌⊎◌, ℕ, [], MatchOption, MatchResult, Ok, OnOk, OnErr};
 ghost use Rattle.tab_term.specs.View.{term};
+ghost use Rattle.tab_etf.specs.Reading.{whole};
 ghost use Rattle.tab_model.specs.declared.ask.Ask.TheVariants.{Join, Do as DoCommand};
 ghost use Rattle.tab_core.specs.Runs.{ask_of};
 ghost use Rattle.tab_outbox.specs.Posts.{as_outbox};
@@ -9,8 +10,10 @@ ghost use Rattle.tab_oneshot.specs.OneShots.{is_one_shot as is_one_shot_command}
 ghost use Rattle.tab_session.specs.StepsMade.{IsJoinRefused, JoinTakesMemory, StepMadeOrRefused};
 ghost use Rattle.tab_session.specs.AnsweredPayloads.{IsNumberOf, Answered, AnsweredTerm, RefusedTerm, RepliesTo, answer_frame, empty_post};
 ghost use Rattle.tab_session.specs.Replays.{Handed, OneFault};
+ghost use Rattle.tab_session.specs.Rereading.{IsAskedBy};
 
 use crate::one_session::drive;
+use crate::payload::Payload;
 use crate::{Ended, PayloadReply};
 use std::alloc::{AllocError, Global};
 use tab_core::{Core, Step, Stepped};
@@ -32,7 +35,15 @@ pub fn answer(
     ensures { Answered outbox core.old payload.now result core.new }
 {
     match decode(alloc, payload) {
-        Ok(held) => answer_to(core, alloc, outbox, held),
+        Ok(held) => answer_to(
+            core,
+            outbox,
+            &Payload {
+                alloc,
+                bytes: payload,
+            },
+            held,
+        ),
         Err(EtfFault::At(_, _)) => PayloadReply {
             session: 0,
             reply: SharedReply::new(Reply::BadTerm),
@@ -44,15 +55,22 @@ pub fn answer(
     }
 }
 
-fn answer_to(core: &mut Core<RingPost>, alloc: Global, outbox: usize, held: Term) -> PayloadReply
+/// Answers the term that a payload is.
+fn answer_to(
+    core: &mut Core<RingPost>,
+    outbox: usize,
+    payload: &Payload<'_>,
+    held: Term,
+) -> PayloadReply
+    requires { whole payload.now.bytes.now ≡ Ok (term held) }
     ensures { AnsweredTerm outbox core.old (term held) result core.new
         ⊎ RefusedTerm outbox core.old (term held) result core.new }
 {
     let number = number_of(&held);
-    match read_request(alloc, held) {
+    match read_request(payload.alloc, held) {
         Ok((session, request)) => PayloadReply {
             session,
-            reply: reply_to(core, alloc, outbox, session, request),
+            reply: reply_to(core, outbox, payload, session, request),
         },
         Err(ProtoFault::BadCommand) => PayloadReply {
             session: number,
@@ -78,19 +96,20 @@ fn number_of(held: &Term) -> u32
 /// A one-shot is run by its driver, and any other request is one step.
 fn reply_to(
     core: &mut Core<RingPost>,
-    alloc: Global,
     outbox: usize,
+    payload: &Payload<'_>,
     session: u32,
     request: Ask<()>,
 ) -> SharedReply
+    requires { IsAskedBy payload.now.bytes.now request }
     ensures { RepliesTo outbox core.old session request result core.new }
 {
     match request {
-        Ask::Join(()) => join(core, alloc, outbox, session),
+        Ask::Join(()) => join(core, payload.alloc, outbox, session),
         Ask::Leave => reply_to_step(core, session, Ask::Leave),
         Ask::Retry => reply_to_step(core, session, Ask::Retry),
         Ask::Take => reply_to_step(core, session, Ask::Take),
-        Ask::Do(command) => reply_to_command(core, alloc, session, command),
+        Ask::Do(command) => reply_to_command(core, payload, session, command),
     }
 }
 
@@ -126,15 +145,16 @@ fn join_refusal(core: &Core<RingPost>, session: u32) -> Option<Reply>
 
 fn reply_to_command(
     core: &mut Core<RingPost>,
-    alloc: Global,
+    payload: &Payload<'_>,
     session: u32,
     command: Command,
 ) -> SharedReply
+    requires { IsAskedBy payload.now.bytes.now (DoCommand command) }
     ensures { (outbox : ℕ)
         → RepliesTo outbox core.old session (DoCommand command) result core.new }
 {
     if is_one_shot(&command) {
-        return drive(core, alloc, session, command);
+        return drive(core, payload, session, command);
     }
     reply_to_step(core, session, Ask::Do(command))
 }

@@ -7,6 +7,7 @@ mod answering;
 mod ended;
 mod laws;
 mod one_session;
+mod payload;
 mod replaying;
 mod serving;
 

@@ -6,9 +6,11 @@ ghost use Rattle.tab_model.specs.Outcome.{is_abort};
 ghost use Rattle.tab_oneshot.specs.Calls.{Call, answer_in};
 ghost use Rattle.tab_oneshot.specs.OneShots.{is_one_shot, IsOneShot};
 ghost use Rattle.tab_session.specs.OneSessions.{Ran};
+ghost use Rattle.tab_session.specs.Rereading.{IsAskedBy};
 ghost use Rattle.tab_session.specs.StepsMade.{StepMadeOrRefused};
 
-use std::alloc::{AllocError, Global};
+use crate::payload::Payload;
+use std::alloc::AllocError;
 use tab_core::{Core, Step};
 use tab_model::{Command, SharedReply};
 use tab_oneshot::{Steps, one_shot};
@@ -56,19 +58,20 @@ impl<'a> Steps for OneSession<'a> {
     fn again(&mut self) {}
 }
 
-/// Runs a one-shot on a session.
+/// Runs a one-shot, which the payload is, on a session.
 pub fn drive(
     core: &mut Core<RingPost>,
-    alloc: Global,
+    payload: &Payload<'_>,
     session: u32,
     command: Command,
 ) -> SharedReply
-    requires { IsTrue (is_one_shot command) }
+    requires one_shot { IsTrue (is_one_shot command) }
+    requires asked { IsAskedBy payload.now.bytes.now (DoCommand command) }
     ensures { (calls : List Call) × Ran session core.old calls core.new
         × IsOneShot command calls result }
 {
     let mut slot = OneSession { core, session };
-    let reply = one_shot(&mut slot, alloc, &command);
+    let reply = one_shot(&mut slot, payload.alloc, command, payload);
     let OneSession {
         core: _,
         session: _,

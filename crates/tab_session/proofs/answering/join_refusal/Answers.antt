@@ -1,5 +1,4 @@
-use Rattle.std.proofs.Common.{◌∙◌, ap, sym, subst, ◌<◌, ◌≤◌}
-use Rattle.tab_model.specs.Standing.{is_joined}
+use Rattle.std.proofs.Common.{◌∙◌, sym, subst, ◌<◌, ◌≤◌}
 use Rattle.tab_session.proofs.Joining.{joined, not_above, admitted, full}
 use Rattle.tab_session.proofs.answering.join_refusal.Goals as goal
 
