@@ -11,19 +11,16 @@ use std::sync::Wait;
 use std::sync::atomic::{AtomicU64, Ordering};
 use std::thread;
 use std::thread::Threads;
-use tab_book::Shared;
 use tab_post::Host;
+use tab_server::Server;
 
 /// The most clients that are answered at once.
 const CLIENTS: u64 = 16;
 
 /// Answers GET and HEAD of `/metrics` and `/sessions`, each client in a thread of its own, until `closing` is closed.
 pub fn serve_pages<H: Host + Threads + Send + Sync, P: Paged + Sync>(
-    host: &H,
-    alloc: Global,
+    server: &Server<'_, H, P>,
     listener: &TcpListener,
-    shared: &Shared<H>,
-    paged: &P,
     closing: &Closing,
 ) {
     // One that waits would not see the end.
@@ -31,19 +28,19 @@ pub fn serve_pages<H: Host + Threads + Send + Sync, P: Paged + Sync>(
         return;
     }
     let answered = &AtomicU64::new(0);
-    thread::scope(thread::scope_env(), host, |scope| {
-        for _ in host.forever() {
+    thread::scope(thread::scope_env(), server.host, |scope| {
+        for _ in server.host.forever() {
             if closing.is_over() {
                 return;
             }
             let Some(stream) = next_client(listener, answered) else {
-                closing.pause(host);
+                closing.pause(server.host);
                 continue;
             };
             answered.fetch_add(1, Ordering::SeqCst);
             let started = scope.spawn(move || {
                 // No one is left to hear that an answer failed.
-                let _told = answer(host, alloc, stream, shared, paged);
+                let _told = answer(server, stream);
                 answered.fetch_sub(1, Ordering::SeqCst);
             });
             if started.is_err() {
@@ -65,20 +62,15 @@ fn next_client(listener: &TcpListener, answered: &AtomicU64) -> Option<TcpStream
 }
 
 /// Reads a request and answers it. An error if the client takes too long for either.
-fn answer<H: Host, P: Paged>(
-    host: &H,
-    alloc: Global,
-    stream: TcpStream,
-    shared: &Shared<H>,
-    paged: &P,
-) -> io::Result<()> {
-    let mut stream = Timed::new(paged, stream)?;
+fn answer<H: Host, P: Paged>(server: &Server<'_, H, P>, stream: TcpStream) -> io::Result<()> {
+    let alloc = server.alloc;
+    let mut stream = Timed::new(server.gate, stream)?;
     let Some(request) = read_request(&mut stream) else {
         return Ok(());
     };
     let text = match request {
-        Request::Get(page) => found(alloc, page, &text(host, alloc, shared, paged, page)?, true)?,
-        Request::Head(page) => found(alloc, page, &text(host, alloc, shared, paged, page)?, false)?,
+        Request::Get(page) => found(alloc, page, &text(server, page)?, true)?,
+        Request::Head(page) => found(alloc, page, &text(server, page)?, false)?,
         Request::Elsewhere => other(alloc, "404 Not Found")?,
         Request::Otherwise => other(alloc, "405 Method Not Allowed\r\nAllow: GET, HEAD")?,
         Request::Wrong => other(alloc, "400 Bad Request")?,
@@ -89,18 +81,15 @@ fn answer<H: Host, P: Paged>(
 }
 
 /// Returns the text of a page. The book is locked for one pass over its sessions, or as for `Holdings`.
-fn text<H: Host, P: Paged>(
-    host: &H,
-    alloc: Global,
-    shared: &Shared<H>,
-    paged: &P,
-    page: Page,
-) -> Result<String, AllocError> {
+fn text<H: Host, P: Paged>(server: &Server<'_, H, P>, page: Page) -> Result<String, AllocError> {
     match page {
-        Page::Meters => paged.page(&Holdings::of(host, alloc, shared)?),
+        Page::Meters => {
+            let holdings = Holdings::of(server.host, server.alloc, server.shared)?;
+            server.gate.page(&holdings)
+        }
         Page::Sessions => {
-            let activities = shared.hold(host).activities()?;
-            paged.sessions(&activities)
+            let activities = server.shared.hold(server.host).activities()?;
+            server.gate.sessions(&activities)
         }
     }
 }

@@ -1,14 +1,20 @@
 -- Items and overflows that are sent, one after another.
 use Rattle.std.specs.Io.KnownBytes.{Appends, append_known}
 use Rattle.std.proofs.lemmas.List.{length-append}
+use Rattle.std.proofs.lemmas.List.Sums.{sum_by-append}
+use Rattle.std.specs.Prelude.{IfSome, sum_by}
 use Rattle.std.proofs.Common.{◌≡◌, ◌⊎◌, ◌+◌, ◌<◌, arith, length, min, Bool, Option, None, Some, inl, inr, ℕ, List, [], ◌∷◌, ◌++◌, refl, sym, ap, ◌∙◌, append_assoc, append-nil, subst}
 use Rattle.tab_term.specs.Canon.{canon}
 use Rattle.tab_etf.specs.Frames.{frame}
+use Rattle.tab_model.specs.Bytes.{item_memory}
 use Rattle.tab_model.specs.declared.data.Item.{Item}
 use Rattle.tab_model.specs.declared.data.Reply.TheVariants as reply
 use Rattle.tab_proto.specs.declared.events.Delivery.{Delivery}
 use Rattle.tab_proto.specs.Events.{sent_frames}
 use Rattle.tab_proto.specs.Replies.{reply_term}
+use Rattle.tab_post.specs.Rooms.{IsAfter, IsBelow, IsBelowSince}
+use Rattle.tab_post.specs.declared.room.Load.{Load}
+use Rattle.tab_post.specs.declared.room.Room.{Room}
 use Rattle.tab_book.specs.declared.step.Drained.TheVariants.{Overflow}
 use Rattle.tab_book.specs.Inboxes.{IsDrained}
 use Rattle.tab_server.specs.Forwarded.{Part, part_frames, Come, Forwards, NothingLeft}
@@ -89,26 +95,41 @@ pub passes_at : {O : Type 0} (sent : O → Option (List ℕ)) (broken : O → Bo
 passes_at {O} sent broken n k d e m l before a x after b y sn sd sm h =
     (h.0, subst (λ i. Forwards n d i before after h.0) sm (subst (λ i. Forwards n i l before after h.0) sd (subst (λ i. Forwards i e l before after h.0) sn h.1)), h.2)
 
--- ---- how many items came
+-- ---- how much came
 
-pub one_more : (first old new : List Item) (i : Item) (count next : ℕ) → new ≡ old ++ i ∷ [] → (count < 18446744073709551615 → length old ≡ length first + count) → next ≡ min (count + 1) 18446744073709551615
-    → next < 18446744073709551615 → length new ≡ length first + next
-one_more first old new i count next taken so is less =
+pub after_none : (t : Load) (xs : List Item) → IsAfter t xs xs t
+after_none t xs = ((λ _. omega arith), λ _. omega arith)
+
+pub after_one : (first old new : List Item) (i : Item) (t count next : Load) → new ≡ old ++ i ∷ [] → IsAfter t first old count
+    → next.items ≡ min (count.items + 1) 18446744073709551615 → next.bytes ≡ min (count.bytes + item_memory i) 18446744073709551615 → IsAfter t first new next
+after_one first old new i t count next taken so items bytes =
     let more : length new ≡ length old + 1 = ap length taken ∙ length-append old (i ∷ []) in
-    let small : count < 18446744073709551615 = omega (arith, is, less) in
-    let before = so small in
-    omega (arith, is, less, more, before)
+    let heavier : sum_by item_memory new ≡ sum_by item_memory old + sum_by item_memory (i ∷ []) = ap (sum_by item_memory) taken ∙ sum_by-append item_memory old (i ∷ []) in (
+      (λ less. let small : count.items < 18446744073709551615 = omega (arith, items, less) in let before = so.0 small in omega (arith, items, less, more, before)),
+      λ less. let small : count.bytes < 18446744073709551615 = omega (arith, bytes, less) in let before = so.1 small in omega (arith, bytes, less, heavier, before),
+    )
 
 pub nothing_at : (n k m l : ℕ) (xs ys : List Item) → k ≡ n → l ≡ m → xs ≡ ys → NothingLeft k l xs → NothingLeft n m ys
 nothing_at n k m l xs ys sn sm sx h =
     subst (λ zs. NothingLeft n m zs) sx (subst (λ i. NothingLeft n i xs) sm (subst (λ i. NothingLeft i l xs) sn h))
 
--- nothing is left, or fewer items came than the mailbox has room for
-pub ended : (n k m l : ℕ) (first old new : List Item) (taken came room room' : ℕ) → k ≡ n → l ≡ m → (came < 18446744073709551615 → length old ≡ length first + came) → room' ≡ room
-    → (P : Type 0) → (mid : List Item) → (P → mid ≡ old) → NothingLeft k l mid ⊎ (taken + came < room') × (came < 18446744073709551615) × P → new ≡ mid
-    → NothingLeft n m new ⊎ (taken + length new < length first + room)
-ended n k m l first old new taken came room room' sn sm so sr P mid same (inl none) e = inl (nothing_at n k m l mid new sn sm (sym e) none)
-ended n k m l first old new taken came room room' sn sm so sr P mid same (inr (less, small, p)) e =
-    let before = so small in
+-- the bytes that came are below the limit, if there is one
+light : (first old new : List Item) (t came : Load) (most : Option ℕ) → IsAfter t first old came → new ≡ old → IfSome most (λ m. (came.bytes < m) × (came.bytes < 18446744073709551615))
+    → IfSome most (λ m. t.bytes + sum_by item_memory new < sum_by item_memory first + m)
+light first old new t came None so e h = tt
+light first old new t came (Some m) so e h =
+    let before = so.1 h.1 in
+    let sums = ap (sum_by item_memory) e in
+    omega (arith, h.0, before, sums)
+
+-- nothing is left, or what came makes no mailbox full
+pub ended : (n k m l : ℕ) (first old new : List Item) (t came : Load) (room room' : Room) → k ≡ n → l ≡ m → IsAfter t first old came → room' ≡ room
+    → (P : Type 0) → (mid : List Item) → (P → mid ≡ old) → NothingLeft k l mid ⊎ IsBelow room' came × P → new ≡ mid
+    → NothingLeft n m new ⊎ IsBelowSince room t first new
+ended n k m l first old new t came room room' sn sm so sr P mid same (inl none) e = inl (nothing_at n k m l mid new sn sm (sym e) none)
+ended n k m l first old new t came room room' sn sm so sr P mid same (inr (below, p)) e =
+    let before = so.0 below.1 in
     let count = ap length (e ∙ same p) in
-    inr (omega (arith, less, before, count, sr))
+    let few = below.0 in
+    let rooms = ap (λ (r : Room). r.items) sr in
+    inr (omega (arith, few, before, count, rooms), subst (λ (r : Room). IfSome r.bytes (λ m. t.bytes + sum_by item_memory new < sum_by item_memory first + m)) sr (light first old new t came room'.bytes so (e ∙ same p) below.2))

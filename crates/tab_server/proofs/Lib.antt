@@ -5,3 +5,5 @@ pub mod Gathering
 pub mod Placing
 pub mod Serving
 pub mod Streaming
+pub mod Rereading
+pub mod Unlogged

@@ -12,6 +12,9 @@ use Rattle.tab_etf.proofs.Cuts.{empty_front, goes_none, payloads-front, payloads
 use Rattle.tab_etf.proofs.KnownBytesLemmas.{Consumes-none, Consumes-then}
 use Rattle.tab_model.specs.declared.data.Reply.{Reply}
 use Rattle.tab_model.specs.declared.data.Reply.TheVariants as reply
+use mathlib.Core.List.{IsPrefix}
+use Rattle.tab_post.proofs.Prefixes.{prefix_self}
+use Rattle.tab_book.specs.Logs.{Made}
 use Rattle.tab_server.specs.declared.answers.Answers.{Answers}
 use Rattle.tab_server.specs.declared.incoming.Incoming.{Incoming}
 use Rattle.tab_server.specs.declared.place.Place.{Place}
@@ -21,7 +24,7 @@ use Rattle.tab_server.specs.Laws.{sends_none, sends_on}
 use Rattle.tab_server.specs.Sending.{reply_frames}
 use Rattle.tab_server.specs.Sent.{AreAnswered, Sends}
 use Rattle.tab_server.specs.Streamed.{kept, early, AnswersBytes, AnswersLast, Gives, IsIn, IsSkipped, IsStreamAnswered, IsStreamStopped, SendsAnswers, SendsLast, TakesLast, TakesPart}
-use Rattle.tab_server.proofs.Answering.{frames_behind}
+use Rattle.tab_server.proofs.Answering.{each_on, frames_behind}
 use Rattle.tab_server.proofs.Placing.{at_front, bytes_at, frame_goes, goes_further, nothing_at, rest_split}
 
 false_is_true : false ≡ true → ⊥
@@ -130,9 +133,9 @@ is_over_next o m e lt = rw e (refl, lt)
 -- ---- a frame that is skipped
 
 module _ (n : ℕ) where
-  skipped_by : (at part : List ℕ) (old new : Incoming) (replies : List (Option Reply)) → new.splitter.over ≡ None → new.splitter.rest ≡ [] → new.skips ≡ not (is_between new.place) → early old.skips ++ replies ≡ Some reply.NoMemory ∷ []
-      → IsPassed (at ++ part) new.place → AnswersBytes n (at ++ part) old new replies
-  skipped_by at part old new replies over rest skips one (inl (here, k)) =
+  skipped_by : (w : List Made) (at part : List ℕ) (old new : Incoming) (replies : List (Option Reply)) → new.splitter.over ≡ None → new.splitter.rest ≡ [] → new.skips ≡ not (is_between new.place) → early old.skips ++ replies ≡ Some reply.NoMemory ∷ []
+      → IsPassed (at ++ part) new.place → AnswersBytes n w w (at ++ part) old new replies
+  skipped_by w at part old new replies over rest skips one (inl (here, k)) =
       let true_now : new.skips ≡ true = skips ∙ ap not k in
       record {
         given = [];
@@ -140,10 +143,10 @@ module _ (n : ℕ) where
         goes = goes_none (at ++ part);
         is_in = record { going = over; rest = rest ∙ ap (λ s. kept s (at ++ part)) (sym true_now); at = here; inside = λ e. k };
         said = [];
-        each = tt;
+        each = prefix_self w;
         same = one ∙ ap early (sym true_now);
       }
-  skipped_by at part old new replies over rest skips one (inr (p, f, k)) =
+  skipped_by w at part old new replies over rest skips one (inr (p, f, k)) =
       let false_now : new.skips ≡ false = skips ∙ ap not k in
       record {
         given = p ∷ [];
@@ -151,27 +154,27 @@ module _ (n : ℕ) where
         goes = frame_goes (at ++ part) p f;
         is_in = record { going = over; rest = rest ∙ ap (λ s. kept s []) (sym false_now); at = nothing_at new.place k; inside = λ e. absurd (false_is_true (sym false_now ∙ e)) };
         said = Some reply.NoMemory ∷ [];
-        each = (inr refl, tt);
+        each = (w, inr (refl, prefix_self w), prefix_self w);
         same = one ∙ ap (λ s. Some reply.NoMemory ∷ early s) (sym false_now);
       }
 
-  pub refused : (at part : List ℕ) (old new : Incoming) → IsIn at old → old.skips ≡ false → new.splitter ≡ record { rest = []; over = None; before = [] } → new.skips ≡ not (is_between new.place) → IsPassed (at ++ part) new.place
-      → AnswersBytes n (at ++ part) old new (Some reply.NoMemory ∷ [])
-  refused at part old new i e fresh skips p =
-      skipped_by at part old new (Some reply.NoMemory ∷ []) (ap (λ (h : Held). h.over) fresh) (ap (λ (h : Held). h.rest) fresh) skips (ap (λ s. early s ++ (Some reply.NoMemory ∷ [])) e) p
+  pub refused : (w : List Made) (at part : List ℕ) (old new : Incoming) → IsIn at old → old.skips ≡ false → new.splitter ≡ record { rest = []; over = None; before = [] } → new.skips ≡ not (is_between new.place) → IsPassed (at ++ part) new.place
+      → AnswersBytes n w w (at ++ part) old new (Some reply.NoMemory ∷ [])
+  refused w at part old new i e fresh skips p =
+      skipped_by w at part old new (Some reply.NoMemory ∷ []) (ap (λ (h : Held). h.over) fresh) (ap (λ (h : Held). h.rest) fresh) skips (ap (λ s. early s ++ (Some reply.NoMemory ∷ [])) e) p
 
-  pub passed_by : (at part : List ℕ) (old new : Incoming) → IsIn at old → old.skips ≡ true → new.splitter ≡ old.splitter → new.skips ≡ not (is_between new.place) → IsPassed (at ++ part) new.place → AnswersBytes n (at ++ part) old new []
-  passed_by at part old new i e same skips p =
-      skipped_by at part old new [] (ap (λ (h : Held). h.over) same ∙ i.going) (ap (λ (h : Held). h.rest) same ∙ i.rest ∙ ap (λ s. kept s at) e) skips (ap (λ s. early s ++ []) e) p
+  pub passed_by : (w : List Made) (at part : List ℕ) (old new : Incoming) → IsIn at old → old.skips ≡ true → new.splitter ≡ old.splitter → new.skips ≡ not (is_between new.place) → IsPassed (at ++ part) new.place → AnswersBytes n w w (at ++ part) old new []
+  passed_by w at part old new i e same skips p =
+      skipped_by w at part old new [] (ap (λ (h : Held). h.over) same ∙ i.going) (ap (λ (h : Held). h.rest) same ∙ i.rest ∙ ap (λ s. kept s at) e) skips (ap (λ s. early s ++ []) e) p
 
-  pub answers_none : (at : List ℕ) (x : Incoming) → IsIn at x → AnswersBytes n (at ++ []) x x []
-  answers_none at x i = record {
+  pub answers_none : (p q : List Made) → IsPrefix p q → (at : List ℕ) (x : Incoming) → IsIn at x → AnswersBytes n p q (at ++ []) x x []
+  answers_none p q b at x i = record {
     given = [];
     left = at;
     goes = subst (λ (b : List ℕ). GoesOn b [] at) (sym (append-nil at)) (goes_none at);
     is_in = i;
     said = [];
-    each = tt;
+    each = b;
     same = append-nil (early x.skips);
   }
 
@@ -180,15 +183,15 @@ module _ (n : ℕ) where
   is_over_at bytes (Payload left) h e = absurd (false_is_true e)
   is_over_at bytes Over (m, h) e = (m, stops_over bytes [] bytes m (goes_none bytes) h)
 
-  pub over_answered : (bytes : List ℕ) (x : Incoming) → IsIn bytes x → x.skips ≡ true → is_over x.place ≡ true → AnswersLast n bytes x []
-  over_answered bytes x i skips e =
+  pub over_answered : (w : List Made) (bytes : List ℕ) (x : Incoming) → IsIn bytes x → x.skips ≡ true → is_over x.place ≡ true → AnswersLast n w w bytes x []
+  over_answered w bytes x i skips e =
       let s = is_over_at bytes x.place i.at e in
       record {
         given = [];
         over = s.0;
         stops = s.1;
         said = [];
-        each = tt;
+        each = prefix_self w;
         last = Some reply.NoMemory;
         is_last = inr refl;
         same = ap (λ b. early b ++ []) skips;
@@ -196,24 +199,19 @@ module _ (n : ℕ) where
 
   -- ---- replies, one after another
 
-  pub each_on : (ps qs : List (List ℕ)) (rs ss : List (Option Reply)) → AreAnswered n ps rs → AreAnswered n qs ss → AreAnswered n (ps ++ qs) (rs ++ ss)
-  each_on [] qs [] ss h k = k
-  each_on [] qs (r ∷ rs) ss h k = absurd h
-  each_on (p ∷ ps) qs [] ss h k = absurd h
-  each_on (p ∷ ps) qs (r ∷ rs) ss h k = (h.0, each_on ps qs rs ss h.1 k)
-
   regroup : (a r s b c t d : List (Option Reply)) → a ++ r ≡ s ++ b → b ++ c ≡ t ++ d → a ++ (r ++ c) ≡ (s ++ t) ++ d
   regroup a r s b c t d e f =
       sym (append_assoc a r c) ∙ ap (λ x. x ++ c) e ∙ append_assoc s b c ∙ ap (λ x. s ++ x) f ∙ sym (append_assoc s t d)
 
-  pub answers_on : (bytes part : List ℕ) (old mid new : Incoming) (first more : List (Option Reply)) (h : AnswersBytes n bytes old mid first) → AnswersBytes n (h.left ++ part) mid new more → AnswersBytes n (bytes ++ part) old new (first ++ more)
-  answers_on bytes part old mid new first more h k = record {
+  pub answers_on : (p q w : List Made) (bytes part : List ℕ) (old mid new : Incoming) (first more : List (Option Reply)) (h : AnswersBytes n p q bytes old mid first) → AnswersBytes n q w (h.left ++ part) mid new more
+      → AnswersBytes n p w (bytes ++ part) old new (first ++ more)
+  answers_on p q w bytes part old mid new first more h k = record {
     given = h.given ++ k.given;
     left = k.left;
     goes = goes_further bytes h.left part k.left h.given k.given h.goes k.goes;
     is_in = k.is_in;
     said = h.said ++ k.said;
-    each = each_on h.given k.given h.said k.said h.each k.each;
+    each = each_on n p q w h.given k.given h.said k.said h.each k.each;
     same = regroup (early old.skips) first h.said (early mid.skips) more k.said (early new.skips) h.same k.same;
   }
 
@@ -227,20 +225,21 @@ module _ (n : ℕ) where
         over = h.over;
       }
 
-  pub answers_last : (bytes part : List ℕ) (old mid : Incoming) (first more : List (Option Reply)) (h : AnswersBytes n bytes old mid first) → AnswersLast n (h.left ++ part) mid more → AnswersLast n (bytes ++ part) old (first ++ more)
-  answers_last bytes part old mid first more h k = record {
+  pub answers_last : (p q w : List Made) (bytes part : List ℕ) (old mid : Incoming) (first more : List (Option Reply)) (h : AnswersBytes n p q bytes old mid first) → AnswersLast n q w (h.left ++ part) mid more
+      → AnswersLast n p w (bytes ++ part) old (first ++ more)
+  answers_last p q w bytes part old mid first more h k = record {
     given = h.given ++ k.given;
     over = k.over;
     stops = stops_further bytes h.left part h.given k.given k.over h.goes k.stops;
     said = h.said ++ k.said;
-    each = each_on h.given k.given h.said k.said h.each k.each;
+    each = each_on n p q w h.given k.given h.said k.said h.each k.each;
     last = k.last;
     is_last = k.is_last;
     same = regroup (early old.skips) first h.said (early mid.skips) more k.said (k.last ∷ []) h.same k.same;
   }
 
-  pub answers_given : (bytes : List ℕ) (old new : Incoming) (given : List (List ℕ)) (replies : List (Option Reply)) → old.skips ≡ false → Gives bytes new given → AreAnswered n given replies → AnswersBytes n bytes old new replies
-  answers_given bytes old new given replies e g h = record {
+  pub answers_given : (p q : List Made) (bytes : List ℕ) (old new : Incoming) (given : List (List ℕ)) (replies : List (Option Reply)) → old.skips ≡ false → Gives bytes new given → AreAnswered n p given replies q → AnswersBytes n p q bytes old new replies
+  answers_given p q bytes old new given replies e g h = record {
     given = given;
     left = g.left;
     goes = g.goes;
@@ -250,8 +249,8 @@ module _ (n : ℕ) where
     same = ap (λ s. early s ++ replies) e ∙ sym (append-nil replies) ∙ ap (λ s. replies ++ early s) (sym g.none);
   }
 
-  pub answers_too_long : (bytes : List ℕ) (old : Incoming) (given : List (List ℕ)) (m : ℕ) (replies : List (Option Reply)) → old.skips ≡ false → Stops bytes given m → AreAnswered n given replies → AnswersLast n bytes old (replies ++ Some reply.BadTerm ∷ [])
-  answers_too_long bytes old given m replies e s h = record {
+  pub answers_too_long : (p q : List Made) (bytes : List ℕ) (old : Incoming) (given : List (List ℕ)) (m : ℕ) (replies : List (Option Reply)) → old.skips ≡ false → Stops bytes given m → AreAnswered n p given replies q → AnswersLast n p q bytes old (replies ++ Some reply.BadTerm ∷ [])
+  answers_too_long p q bytes old given m replies e s h = record {
     given = given;
     over = m;
     stops = s;
@@ -270,8 +269,8 @@ module _ (n : ℕ) where
     over = h.over;
   }
 
-  pub last_more : (bytes more : List ℕ) (old : Incoming) (replies : List (Option Reply)) → AnswersLast n bytes old replies → AnswersLast n (bytes ++ more) old replies
-  last_more bytes more old replies h = record {
+  pub last_more : (p q : List Made) (bytes more : List ℕ) (old : Incoming) (replies : List (Option Reply)) → AnswersLast n p q bytes old replies → AnswersLast n p q (bytes ++ more) old replies
+  last_more p q bytes more old replies h = record {
     given = h.given;
     over = h.over;
     stops = stops_more bytes more h.given h.over h.stops;
@@ -283,11 +282,11 @@ module _ (n : ℕ) where
   }
 
   -- why a frame was not taken, if not since its length is over the limit
-  pub refused_part : (e : FrameFault) (bytes : List ℕ) (old new : Incoming) → ((m : ℕ) → e ≡ faults.FrameTooLong m → ⊥) → IsSkipped e bytes old new → AnswersBytes n bytes old new (Some reply.NoMemory ∷ [])
-  refused_part (faults.FrameTooLong m) bytes old new other h = absurd (other m refl)
-  refused_part faults.CutOff bytes old new other h = absurd h
-  refused_part faults.Device bytes old new other h = absurd h
-  refused_part faults.NoMemory bytes old new other h = h n
+  pub refused_part : (w : List Made) (e : FrameFault) (bytes : List ℕ) (old new : Incoming) → ((m : ℕ) → e ≡ faults.FrameTooLong m → ⊥) → IsSkipped e bytes old new → AnswersBytes n w w bytes old new (Some reply.NoMemory ∷ [])
+  refused_part w (faults.FrameTooLong m) bytes old new other h = absurd (other m refl)
+  refused_part w faults.CutOff bytes old new other h = absurd h
+  refused_part w faults.Device bytes old new other h = absurd h
+  refused_part w faults.NoMemory bytes old new other h = h n w
 
   -- ---- what is sent
 
@@ -296,107 +295,112 @@ module _ (n : ℕ) where
     sends_then a b c rs ss h k =
         subst (λ (bytes : List ℕ). Sends sent broken a c bytes) (sym (frames_behind rs ss)) (sends_on sent broken a b c (reply_frames rs) (reply_frames ss) h k)
 
-    pub nothing_sent : (at : List ℕ) (x : Incoming) (a : Answers O G) → IsIn at x → SendsAnswers sent broken n (at ++ []) x x a a
-    nothing_sent at x a i = record { replies = []; answers = answers_none at x i; sends = sends_none sent broken a }
+    pub nothing_sent : (p q : List Made) → IsPrefix p q → (at : List ℕ) (x : Incoming) (a : Answers O G) → IsIn at x → SendsAnswers sent broken n p q (at ++ []) x x a a
+    nothing_sent p q b at x a i = record { replies = []; answers = answers_none p q b at x i; sends = sends_none sent broken a }
 
-    pub served_on : (bytes part : List ℕ) (x y z : Incoming) (a b c : Answers O G) (h : SendsAnswers sent broken n bytes x y a b) → SendsAnswers sent broken n (h.answers.left ++ part) y z b c → SendsAnswers sent broken n (bytes ++ part) x z a c
-    served_on bytes part x y z a b c h k = record {
+    pub served_on : (p q w : List Made) (bytes part : List ℕ) (x y z : Incoming) (a b c : Answers O G) (h : SendsAnswers sent broken n p q bytes x y a b) → SendsAnswers sent broken n q w (h.answers.left ++ part) y z b c
+        → SendsAnswers sent broken n p w (bytes ++ part) x z a c
+    served_on p q w bytes part x y z a b c h k = record {
       replies = h.replies ++ k.replies;
-      answers = answers_on bytes part x y z h.replies k.replies h.answers k.answers;
+      answers = answers_on p q w bytes part x y z h.replies k.replies h.answers k.answers;
       sends = sends_then a b c h.replies k.replies h.sends k.sends;
     }
 
-    pub served_last : (bytes part : List ℕ) (x y : Incoming) (a b c : Answers O G) (h : SendsAnswers sent broken n bytes x y a b) → SendsLast sent broken n (h.answers.left ++ part) y b c → SendsLast sent broken n (bytes ++ part) x a c
-    served_last bytes part x y a b c h k = record {
+    pub served_last : (p q w : List Made) (bytes part : List ℕ) (x y : Incoming) (a b c : Answers O G) (h : SendsAnswers sent broken n p q bytes x y a b) → SendsLast sent broken n q w (h.answers.left ++ part) y b c
+        → SendsLast sent broken n p w (bytes ++ part) x a c
+    served_last p q w bytes part x y a b c h k = record {
       replies = h.replies ++ k.replies;
-      answers = answers_last bytes part x y h.replies k.replies h.answers k.answers;
+      answers = answers_last p q w bytes part x y h.replies k.replies h.answers k.answers;
       sends = sends_then a b c h.replies k.replies h.sends k.sends;
     }
 
-    pub served_more : (bytes more : List ℕ) (x : Incoming) (a b : Answers O G) → SendsLast sent broken n bytes x a b → SendsLast sent broken n (bytes ++ more) x a b
-    served_more bytes more x a b h = record { replies = h.replies; answers = last_more bytes more x h.replies h.answers; sends = h.sends }
+    pub served_more : (p q : List Made) (bytes more : List ℕ) (x : Incoming) (a b : Answers O G) → SendsLast sent broken n p q bytes x a b → SendsLast sent broken n p q (bytes ++ more) x a b
+    served_more p q bytes more x a b h = record { replies = h.replies; answers = last_more p q bytes more x h.replies h.answers; sends = h.sends }
 
-    pub served_over : (bytes : List ℕ) (x : Incoming) (a : Answers O G) → AnswersLast n bytes x [] → SendsLast sent broken n bytes x a a
-    served_over bytes x a h = record { replies = []; answers = h; sends = sends_none sent broken a }
+    pub served_over : (p q : List Made) (bytes : List ℕ) (x : Incoming) (a : Answers O G) → AnswersLast n p q bytes x [] → SendsLast sent broken n p q bytes x a a
+    served_over p q bytes x a h = record { replies = []; answers = h; sends = sends_none sent broken a }
 
     -- bytes, part of which were passed over
-    pub served_skip : (at piece : List ℕ) (count : ℕ) (x y z : Incoming) (a b : Answers O G) (h : AnswersBytes n (at ++ take count piece) x y [])
-        → SendsAnswers sent broken n (h.left ++ take (length piece - count) (drop count piece)) y z a b → SendsAnswers sent broken n (at ++ piece) x z a b
-    served_skip at piece count x y z a b h k =
-        subst (λ (bytes : List ℕ). SendsAnswers sent broken n bytes x z a b) (append_assoc at (take count piece) (take (length piece - count) (drop count piece)) ∙ ap (λ (r : List ℕ). at ++ r) (sym (rest_split count piece)))
-        (served_on (at ++ take count piece) (take (length piece - count) (drop count piece)) x y z a a b (record { replies = []; answers = h; sends = sends_none sent broken a }) k)
+    pub served_skip : (p q w : List Made) (at piece : List ℕ) (count : ℕ) (x y z : Incoming) (a b : Answers O G) (h : AnswersBytes n p q (at ++ take count piece) x y [])
+        → SendsAnswers sent broken n q w (h.left ++ take (length piece - count) (drop count piece)) y z a b → SendsAnswers sent broken n p w (at ++ piece) x z a b
+    served_skip p q w at piece count x y z a b h k =
+        subst (λ (bytes : List ℕ). SendsAnswers sent broken n p w bytes x z a b) (append_assoc at (take count piece) (take (length piece - count) (drop count piece)) ∙ ap (λ (r : List ℕ). at ++ r) (sym (rest_split count piece)))
+        (served_on p q w (at ++ take count piece) (take (length piece - count) (drop count piece)) x y z a a b (record { replies = []; answers = h; sends = sends_none sent broken a }) k)
 
-    pub last_skip : (at piece : List ℕ) (count : ℕ) (x y : Incoming) (a b : Answers O G) (h : AnswersBytes n (at ++ take count piece) x y [])
-        → SendsLast sent broken n (h.left ++ take (length piece - count) (drop count piece)) y a b → SendsLast sent broken n (at ++ piece) x a b
-    last_skip at piece count x y a b h k =
-        subst (λ (bytes : List ℕ). SendsLast sent broken n bytes x a b) (append_assoc at (take count piece) (take (length piece - count) (drop count piece)) ∙ ap (λ (r : List ℕ). at ++ r) (sym (rest_split count piece)))
-        (served_last (at ++ take count piece) (take (length piece - count) (drop count piece)) x y a a b (record { replies = []; answers = h; sends = sends_none sent broken a }) k)
+    pub last_skip : (p q w : List Made) (at piece : List ℕ) (count : ℕ) (x y : Incoming) (a b : Answers O G) (h : AnswersBytes n p q (at ++ take count piece) x y [])
+        → SendsLast sent broken n q w (h.left ++ take (length piece - count) (drop count piece)) y a b → SendsLast sent broken n p w (at ++ piece) x a b
+    last_skip p q w at piece count x y a b h k =
+        subst (λ (bytes : List ℕ). SendsLast sent broken n p w bytes x a b) (append_assoc at (take count piece) (take (length piece - count) (drop count piece)) ∙ ap (λ (r : List ℕ). at ++ r) (sym (rest_split count piece)))
+        (served_last p q w (at ++ take count piece) (take (length piece - count) (drop count piece)) x y a a b (record { replies = []; answers = h; sends = sends_none sent broken a }) k)
 
-    pub over_skip : (at piece : List ℕ) (count : ℕ) (x y : Incoming) (a : Answers O G) (h : AnswersBytes n (at ++ take count piece) x y []) → AnswersLast n h.left y [] → SendsLast sent broken n (at ++ piece) x a a
-    over_skip at piece count x y a h k =
-        last_skip at piece count x y a a h (served_more h.left (take (length piece - count) (drop count piece)) y a a (served_over h.left y a k))
+    pub over_skip : (p q w : List Made) (at piece : List ℕ) (count : ℕ) (x y : Incoming) (a : Answers O G) (h : AnswersBytes n p q (at ++ take count piece) x y []) → AnswersLast n q w h.left y []
+        → SendsLast sent broken n p w (at ++ piece) x a a
+    over_skip p q w at piece count x y a h k =
+        last_skip p q w at piece count x y a a h (served_more q w h.left (take (length piece - count) (drop count piece)) y a a (served_over q w h.left y a k))
 
-    pub all_skipped : (at piece : List ℕ) (count : ℕ) (x y : Incoming) (a : Answers O G) → AnswersBytes n (at ++ take count piece) x y [] → length piece ≤ count → SendsAnswers sent broken n (at ++ piece) x y a a
-    all_skipped at piece count x y a h le =
-        record { replies = []; answers = subst (λ (r : List ℕ). AnswersBytes n (at ++ r) x y []) (take_all count piece le) h; sends = sends_none sent broken a }
+    pub all_skipped : (p q : List Made) (at piece : List ℕ) (count : ℕ) (x y : Incoming) (a : Answers O G) → AnswersBytes n p q (at ++ take count piece) x y [] → length piece ≤ count → SendsAnswers sent broken n p q (at ++ piece) x y a a
+    all_skipped p q at piece count x y a h le =
+        record { replies = []; answers = subst (λ (r : List ℕ). AnswersBytes n p q (at ++ r) x y []) (take_all count piece le) h; sends = sends_none sent broken a }
 
     -- ---- a reader
 
-    pub stream_answered : (before after : Option (List ℕ)) (x y : Incoming) (a b : Answers O G) → x.skips ≡ false → TakesPart sent broken n before after [] x y a b → IsStreamAnswered sent broken n before after a b
-    stream_answered before after x y a b none t =
+    pub stream_answered : (p q : List Made) (before after : Option (List ℕ)) (x y : Incoming) (a b : Answers O G) → x.skips ≡ false → TakesPart sent broken n p q before after [] x y a b → IsStreamAnswered sent broken n p q before after a b
+    stream_answered p q before after x y a b none t =
         let k = t.served.answers in
         let e = all_given t.part k.left k.given k.goes (at_front k.left y.place k.is_in.at) in
         record {
           bytes = t.part;
           read = t.read;
           said = k.said;
-          each = subst (λ (ps : List (List ℕ)). AreAnswered n ps k.said) (sym e.0) k.each;
+          each = subst (λ (ps : List (List ℕ)). AreAnswered n p ps k.said q) (sym e.0) k.each;
           skips = y.skips;
           inside = λ s f. no_length k.left (sym e.1 ∙ f) (bytes_at k.left y.place k.is_in.at (k.is_in.inside s));
           sends = subst (λ (rs : List (Option Reply)). Sends sent broken a b (reply_frames rs)) (ap (λ s. early s ++ t.served.replies) (sym none) ∙ k.same) t.served.sends;
         }
 
-    pub stream_stopped : (before after : Option (List ℕ)) (x : Incoming) (a b : Answers O G) → x.skips ≡ false → TakesLast sent broken n before after [] x a b → IsStreamStopped sent broken n before after a b
-    stream_stopped before after x a b none t =
+    pub stream_stopped : (p q : List Made) (before after : Option (List ℕ)) (x : Incoming) (a b : Answers O G) → x.skips ≡ false → TakesLast sent broken n p q before after [] x a b → IsStreamStopped sent broken n p q before after a b
+    stream_stopped p q before after x a b none t =
         let k = t.served.answers in
         let whole : t.part ++ [] ≡ t.part = append-nil t.part in
         record {
           bytes = t.part;
           read = t.read;
           said = k.said;
-          each = subst (λ (ps : List (List ℕ)). AreAnswered n ps k.said) (sym (k.stops.found []) ∙ ap payloads whole) k.each;
+          each = subst (λ (ps : List (List ℕ)). AreAnswered n p ps k.said q) (sym (k.stops.found []) ∙ ap payloads whole) k.each;
           over = (k.over, is_over_next (length_next (rest_of t.part)) k.over (ap (λ (r : List ℕ). length_next (rest_of r)) (sym whole) ∙ k.stops.next []) k.stops.over);
           last = k.last;
           is_last = k.is_last;
           sends = subst (λ (rs : List (Option Reply)). Sends sent broken a b (reply_frames rs)) (ap (λ s. early s ++ t.served.replies) (sym none) ∙ k.same) t.served.sends;
         }
 
-    pub nothing_answered : (before : Option (List ℕ)) (a : Answers O G) → IsStreamAnswered sent broken n before before a a
-    nothing_answered before a = record {
+    pub nothing_answered : (w : List Made) (before : Option (List ℕ)) (a : Answers O G) → IsStreamAnswered sent broken n w w before before a a
+    nothing_answered w before a = record {
       bytes = [];
       read = Consumes-none before;
       said = [];
-      each = subst (λ (ps : List (List ℕ)). AreAnswered n ps []) (sym empty_front.0) tt;
+      each = subst (λ (ps : List (List ℕ)). AreAnswered n w ps [] w) (sym empty_front.0) (prefix_self w);
       skips = false;
       inside = λ e. absurd (false_is_true e);
       sends = sends_none sent broken a;
     }
 
-    pub takes_none : (before after : Option (List ℕ)) (at : List ℕ) (x : Incoming) (a : Answers O G) → Consumes before after [] → IsIn at x → TakesPart sent broken n before after at x x a a
-    takes_none before after at x a h i = record { part = []; read = h; served = nothing_sent at x a i }
+    pub takes_none : (p q : List Made) → IsPrefix p q → (before after : Option (List ℕ)) (at : List ℕ) (x : Incoming) (a : Answers O G) → Consumes before after [] → IsIn at x → TakesPart sent broken n p q before after at x x a a
+    takes_none p q b before after at x a h i = record { part = []; read = h; served = nothing_sent p q b at x a i }
 
-    pub takes_on : (before mid after : Option (List ℕ)) (at : List ℕ) (x y z : Incoming) (a b c : Answers O G) (h : TakesPart sent broken n before mid at x y a b) → TakesPart sent broken n mid after h.served.answers.left y z b c → TakesPart sent broken n before after at x z a c
-    takes_on before mid after at x y z a b c h k = record {
+    pub takes_on : (p q w : List Made) (before mid after : Option (List ℕ)) (at : List ℕ) (x y z : Incoming) (a b c : Answers O G) (h : TakesPart sent broken n p q before mid at x y a b) → TakesPart sent broken n q w mid after h.served.answers.left y z b c
+        → TakesPart sent broken n p w before after at x z a c
+    takes_on p q w before mid after at x y z a b c h k = record {
       part = h.part ++ k.part;
       read = Consumes-then before mid after h.part k.part (h.part ++ k.part) h.read k.read refl;
-      served = subst (λ (bytes : List ℕ). SendsAnswers sent broken n bytes x z a c) (append_assoc at h.part k.part) (served_on (at ++ h.part) k.part x y z a b c h.served k.served);
+      served = subst (λ (bytes : List ℕ). SendsAnswers sent broken n p w bytes x z a c) (append_assoc at h.part k.part) (served_on p q w (at ++ h.part) k.part x y z a b c h.served k.served);
     }
 
-    pub takes_last : (before mid after : Option (List ℕ)) (at : List ℕ) (x y : Incoming) (a b c : Answers O G) (h : TakesPart sent broken n before mid at x y a b) → TakesLast sent broken n mid after h.served.answers.left y b c → TakesLast sent broken n before after at x a c
-    takes_last before mid after at x y a b c h k = record {
+    pub takes_last : (p q w : List Made) (before mid after : Option (List ℕ)) (at : List ℕ) (x y : Incoming) (a b c : Answers O G) (h : TakesPart sent broken n p q before mid at x y a b) → TakesLast sent broken n q w mid after h.served.answers.left y b c
+        → TakesLast sent broken n p w before after at x a c
+    takes_last p q w before mid after at x y a b c h k = record {
       part = h.part ++ k.part;
       read = Consumes-then before mid after h.part k.part (h.part ++ k.part) h.read k.read refl;
-      served = subst (λ (bytes : List ℕ). SendsLast sent broken n bytes x a c) (append_assoc at h.part k.part) (served_last (at ++ h.part) k.part x y a b c h.served k.served);
+      served = subst (λ (bytes : List ℕ). SendsLast sent broken n p w bytes x a c) (append_assoc at h.part k.part) (served_last p q w (at ++ h.part) k.part x y a b c h.served k.served);
     }
 
 pub keeps_consumes : (before after : Option (List ℕ)) → Keeps before after → Consumes before after []

@@ -5,4 +5,10 @@ pub mod Serving
 pub mod Sent
 pub mod Laws
 pub mod Placed
+pub mod Rereading
 pub mod Streamed
+pub mod Putting
+pub mod Counted
+pub mod Idle
+pub mod Aborting
+pub mod Kinds

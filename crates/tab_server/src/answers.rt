@@ -61,7 +61,9 @@ impl<'a, O: Outlet, G: Gate> Answers<'a, O, G> {
     }
 
     /// The counters.
-    pub fn counts(&self) -> &'a G {
+    pub fn counts(&self) -> &'a G
+        ensures { result ≡ self.now.gate }
+    {
         self.gate
     }
 

@@ -7,7 +7,7 @@ use std::sync::atomic::{AtomicBool, AtomicU32, Ordering};
 use std::sync::{Arc, Condvar, Mutex};
 use std::thread;
 use std::time::Duration;
-use tab_post::Host;
+use tab_post::{Host, Room};
 
 /// The most milliseconds of a sleep.
 const SLEEP: u64 = 1_000;
@@ -23,20 +23,20 @@ pub struct Dispatcher<H: Host> {
     bell: Condvar,
     /// The number of sessions that have subscribed and have not left. It includes those whose connection is not in `lines`.
     watchers: AtomicU32,
-    /// The number of items that a mailbox has room for.
-    outbox: usize,
+    /// What a mailbox holds.
+    room: Room,
     runs: AtomicBool,
     is_over: AtomicBool,
 }
 
 impl<H: Host> Dispatcher<H> {
     /// Creates a dispatcher without connections, whose thread is not started yet.
-    pub fn new(alloc: Global, outbox: usize) -> Dispatcher<H> {
+    pub fn new(alloc: Global, room: Room) -> Dispatcher<H> {
         Dispatcher {
             lines: Mutex::new(Vec::new(alloc)),
             bell: Condvar::new(),
             watchers: AtomicU32::new(0),
-            outbox,
+            room,
             runs: AtomicBool::new(false),
             is_over: AtomicBool::new(false),
         }
@@ -120,7 +120,7 @@ impl<H: Host> Dispatcher<H> {
         let mut more = false;
         for line in lines.iter() {
             if line.watches() {
-                more |= line.send_now(host, self.outbox, notes);
+                more |= line.send_now(host, self.room, notes);
             }
         }
         more

@@ -1,7 +1,8 @@
 //! The events of one connection.
 
-ghost use Rattle.std.specs.Prelude.{◌≡◌, ◌⊎◌, ◌+◌, ◌<◌, ◌++◌, [], ℕ, List, length, IfOk, OnOk};
+ghost use Rattle.std.specs.Prelude.{◌≡◌, ◌⊎◌, ◌++◌, [], ℕ, List, IfOk, OnOk};
 ghost use Rattle.tab_post.specs.Ends.{mailbox_of, received};
+ghost use Rattle.tab_post.specs.Rooms.{IsAfter, IsBelow, IsBelowSince};
 ghost use Rattle.tab_proto.specs.Events.{sent_frames};
 ghost use Rattle.tab_server.specs.Forwarded.{aside_frames, Forwards, NothingLeft};
 ghost use Rattle.tab_server.specs.Sending.{Goes};
@@ -9,12 +10,12 @@ ghost use Rattle.tab_server.specs.Sending.{Goes};
 use crate::answers::Unwritten;
 use crate::gate::{Count, Note, Notes};
 use crate::outlet::{Outlet, SharedSink};
-use std::alloc::Global;
+use crate::server::Server;
 use std::io::Write;
 use tab_book::{Drained, Seat, Shared};
 use tab_etf::event_len;
 use tab_model::{Item, SharedItem};
-use tab_post::{Host, Inbox};
+use tab_post::{Host, Inbox, Load};
 use tab_proto::{Delivery, append_item, append_overflow};
 use tab_sink::FrameSink;
 use tab_sink::kept::{KEPT, empty};
@@ -23,25 +24,21 @@ use tab_sink::pieces::{passes, reaches};
 /// Sends what comes into the inbox, in order, until the session has left and nothing is left, or a write fails, or no
 /// memory is found for an event. Items that are there at once are written at once.
 pub fn event_loop<H: Host, W: Write, N: Notes>(
-    host: &H,
-    alloc: Global,
-    shared: &Shared<H>,
+    server: &Server<'_, H, N>,
     seat: &Seat,
     inbox: &mut Inbox<H>,
     sink: &FrameSink<W>,
-    delivery: Delivery,
-    notes: &N,
 ) {
-    let mut frames = Vec::new(alloc);
+    let mut frames = Vec::new(server.alloc);
     let mut events = Events {
-        host,
-        shared,
+        host: server.host,
+        shared: server.shared,
         seat: *seat,
         inbox,
         frames: &mut frames,
-        outlet: SharedSink::new(host, sink),
-        delivery,
-        notes,
+        outlet: SharedSink::new(server.host, sink),
+        delivery: server.settings.delivery,
+        notes: server.gate,
     };
     let _ended = events.run();
 }
@@ -90,13 +87,13 @@ impl<'a, H: Host, O: Outlet, N: Notes> Events<'a, H, O, N> {
                 return Ok(());
             };
             self.keep(item.item())?;
-            self.send_waiting(1)?;
+            self.send_waiting(Load::none().with(&item))?;
         }
         unreachable!()
     }
 
     /// Sends an item that was put aside, if there is one, after the kept frames, and then all items that are in the inbox.
-    pub fn resume(&mut self, long: Option<SharedItem>, taken: usize) -> Result<(), Unwritten>
+    pub fn resume(&mut self, long: Option<SharedItem>, taken: Load) -> Result<(), Unwritten>
         ensures sent { OnOk result
             ((bytes : List ℕ)
             × Forwards self.old.seat self.old.delivery (mailbox_of self.old.inbox.now)
@@ -108,8 +105,8 @@ impl<'a, H: Host, O: Outlet, N: Notes> Events<'a, H, O, N> {
         ensures end { OnOk result
             (NothingLeft self.old.seat (mailbox_of self.old.inbox.now)
             (received self.new.inbox.now)
-            ⊎ (taken + length (received self.new.inbox.now)
-            < length (received self.old.inbox.now) + self.old.shared.now.outbox)) }
+            ⊎ IsBelowSince self.old.shared.now.room taken (received self.old.inbox.now)
+            (received self.new.inbox.now)) }
         ensures slots { (self.new.inbox.ghost_name ≡ self.old.inbox.ghost_name)
             × (self.new.frames.ghost_name ≡ self.old.frames.ghost_name) }
     {
@@ -134,11 +131,11 @@ impl<'a, H: Host, O: Outlet, N: Notes> Events<'a, H, O, N> {
         }
     }
 
-    /// Sends the kept frames, and all items that are in the inbox. `taken` items were received since the inbox was found
-    /// empty. A post refuses an item only if its mailbox is full, and the items of a full mailbox are received before the
-    /// inbox is found empty. So if fewer items were received than the mailbox has room for, none was refused, and the
-    /// book need not be asked for an overflow.
-    fn send_waiting(&mut self, taken: usize) -> Result<(), Unwritten>
+    /// Sends the kept frames, and all items that are in the inbox. `taken` was received since the inbox was found empty.
+    /// A post refuses an item only if its mailbox is full, and the items of a full mailbox are received before the inbox
+    /// is found empty. So if what was received makes no mailbox full, no item was refused, and the book need not be asked
+    /// for an overflow.
+    fn send_waiting(&mut self, taken: Load) -> Result<(), Unwritten>
         ensures sent { OnOk result
             ((bytes : List ℕ)
             × Forwards self.old.seat self.old.delivery (mailbox_of self.old.inbox.now)
@@ -152,18 +149,18 @@ impl<'a, H: Host, O: Outlet, N: Notes> Events<'a, H, O, N> {
         ensures end { OnOk result
             (NothingLeft self.old.seat (mailbox_of self.old.inbox.now)
             (received self.new.inbox.now)
-            ⊎ (taken + length (received self.new.inbox.now)
-            < length (received self.old.inbox.now) + self.old.shared.now.outbox)) }
+            ⊎ IsBelowSince self.old.shared.now.room taken (received self.old.inbox.now)
+            (received self.new.inbox.now)) }
         ensures slots { (self.new.inbox.ghost_name ≡ self.old.inbox.ghost_name)
             × (self.new.frames.ghost_name ≡ self.old.frames.ghost_name) }
     {
-        let came = self.keep_waiting()?;
-        self.keep_missed(taken, came)?;
+        let received = self.keep_waiting(taken)?;
+        self.keep_missed(received)?;
         self.send()
     }
 
-    /// Keeps the remaining items and an overflow, if so many items were received that an item may have been refused.
-    fn keep_missed(&mut self, taken: usize, came: usize) -> Result<(), Unwritten>
+    /// Keeps the remaining items and an overflow, if so much was received that an item may have been refused.
+    fn keep_missed(&mut self, taken: Load) -> Result<(), Unwritten>
         ensures sent { OnOk result
             ((bytes : List ℕ)
             × Forwards self.old.seat self.old.delivery (mailbox_of self.old.inbox.now)
@@ -176,18 +173,18 @@ impl<'a, H: Host, O: Outlet, N: Notes> Events<'a, H, O, N> {
         ensures end { OnOk result
             (NothingLeft self.old.seat (mailbox_of self.old.inbox.now)
             (received self.new.inbox.now)
-            ⊎ (taken + came < self.old.shared.now.outbox) × (came < u64.MAX) × (self.new.inbox.now ≡ self.old.inbox.now)) }
+            ⊎ IsBelow self.old.shared.now.room taken × (self.new.inbox.now ≡ self.old.inbox.now)) }
         ensures slots { (self.new.inbox.ghost_name ≡ self.old.inbox.ghost_name)
             × (self.new.frames.ghost_name ≡ self.old.frames.ghost_name) }
     {
-        if taken.saturating_add(came) < self.shared.outbox() {
+        if !self.shared.room().is_full_of(taken) {
             return Ok(());
         }
         self.keep_rest()
     }
 
-    /// Keeps all items that are in the inbox, and returns their number.
-    fn keep_waiting(&mut self) -> Result<usize, Unwritten>
+    /// Keeps all items that are in the inbox, and returns what was received with them.
+    fn keep_waiting(&mut self, mut taken: Load) -> Result<Load, Unwritten>
         ensures sent { OnOk result
             ((bytes : List ℕ)
             × Forwards self.old.seat self.old.delivery (mailbox_of self.old.inbox.now)
@@ -198,19 +195,17 @@ impl<'a, H: Host, O: Outlet, N: Notes> Events<'a, H, O, N> {
         ensures seat { self.new.seat ≡ self.old.seat }
         ensures delivery { self.new.delivery ≡ self.old.delivery }
         ensures count { IfOk result
-            (λ n. n < u64.MAX → length (received self.new.inbox.now)
-            ≡ length (received self.old.inbox.now) + n) }
+            (IsAfter taken (received self.old.inbox.now) (received self.new.inbox.now)) }
         ensures shared { self.new.shared ≡ self.old.shared }
         ensures slots { (self.new.inbox.ghost_name ≡ self.old.inbox.ghost_name)
             × (self.new.frames.ghost_name ≡ self.old.frames.ghost_name) }
     {
-        let mut count: usize = 0;
         for _ in self.host.forever() {
             let Some(item) = self.inbox.try_receive() else {
-                return Ok(count);
+                return Ok(taken);
             };
             self.keep(item.item())?;
-            count = count.saturating_add(1);
+            taken = taken.with(&item);
         }
         unreachable!()
     }

@@ -4,6 +4,7 @@ ghost use Rattle.std.specs.Prelude.{◌≡◌, ◌<◌, ◌≤◌, ◌++◌, ◌
 ghost use Rattle.tab_etf.specs.Frames.{contents};
 ghost use Rattle.tab_etf.specs.Streams.{Stops};
 ghost use Rattle.tab_model.specs.declared.data.Reply.TheVariants as reply;
+ghost use Rattle.tab_book.specs.Logs.{Made};
 ghost use Rattle.tab_server.specs.Streamed.{AnswersBytes, AnswersLast, Gives, IsIn, IsNotTaken, IsSkipped};
 
 use crate::place::Place;
@@ -35,14 +36,16 @@ impl Incoming {
     }
 
     /// The position of the stream.
-    pub fn place(&self) -> Place {
+    pub fn place(&self) -> Place
+        ensures { result ≡ self.now.place }
+    {
         self.place
     }
 
     /// Returns whether the length of a frame that is skipped is over the limit.
     pub fn is_over(&self) -> bool
-        ensures { IsTrue result → (n : ℕ) (bytes : List ℕ) → IsIn bytes self.now
-            → AnswersLast n bytes self.now [] }
+        ensures { IsTrue result → (n : ℕ) (seen : List Made) (bytes : List ℕ)
+            → IsIn bytes self.now → AnswersLast n seen seen bytes self.now [] }
     {
         if !self.skips {
             return false;
@@ -61,8 +64,8 @@ impl Incoming {
     pub fn skip(&mut self, piece: &[u8]) -> usize
         ensures within { result ≤ length piece.now }
         ensures skips { IsTrue self.new.skips → result ≡ length piece.now }
-        ensures answer { (n : ℕ) (at : List ℕ) → IsIn at self.old
-            → AnswersBytes n (at ++ take result piece.now) self.old self.new [] }
+        ensures answer { (n : ℕ) (seen : List Made) (at : List ℕ) → IsIn at self.old
+            → AnswersBytes n seen seen (at ++ take result piece.now) self.old self.new [] }
     {
         if !self.skips {
             return 0;

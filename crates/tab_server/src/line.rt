@@ -1,18 +1,24 @@
 //! The writing end of a connection, for replies and events.
 
+ghost use Rattle.std.specs.Prelude.{◌≡◌, ◌⊎◌, [], ℕ, List, None, OnOk};
+ghost use Rattle.tab_post.specs.Ends.{mailbox_of, received};
+ghost use Rattle.tab_post.specs.Rooms.{IsBelowSince};
+ghost use Rattle.tab_server.specs.Forwarded.{Forwards, NothingLeft};
+
 use crate::answers::Unwritten;
 use crate::dispatcher::Dispatcher;
 use crate::events::{Events, event_loop};
 use crate::gate::{Count, Notes};
 use crate::mail::{Mail, Progress, Turn};
 use crate::outlet::SharedSink;
+use crate::server::Server;
 use std::alloc::Global;
 use std::mem;
 use std::net::TcpStream;
 use std::sync::atomic::{AtomicBool, Ordering};
 use std::sync::{Condvar, Mutex, Wait};
-use tab_book::{Seat, Shared};
-use tab_post::{Host, Inbox};
+use tab_book::Seat;
+use tab_post::{Host, Inbox, Load, Room};
 use tab_proto::Delivery;
 use tab_sink::FrameSink;
 
@@ -38,7 +44,10 @@ impl<H: Host> Line<H> {
         seat: Seat,
         inbox: Inbox<H>,
         delivery: Delivery,
-    ) -> Line<H> {
+    ) -> Line<H>
+        ensures seat { result.seat ≡ seat }
+        ensures delivery { result.delivery ≡ delivery }
+    {
         Line {
             sink: FrameSink::new(writer),
             seat,
@@ -49,8 +58,17 @@ impl<H: Host> Line<H> {
         }
     }
 
+    /// Returns the name of the session in the book.
+    pub fn seat(&self) -> &Seat
+        ensures { result.now ≡ self.now.seat }
+    {
+        &self.seat
+    }
+
     /// Returns the session's number.
-    pub fn session(&self) -> u32 {
+    pub fn session(&self) -> u32
+        ensures { result ≡ self.now.seat }
+    {
         self.seat.session()
     }
 
@@ -71,14 +89,14 @@ impl<H: Host> Line<H> {
     }
 
     /// Sends the waiting events without blocking, if it is the dispatcher's turn. Returns true if more may wait.
-    pub fn send_now<N: Notes>(&self, host: &H, outbox: usize, notes: &N) -> bool {
+    pub fn send_now<N: Notes>(&self, host: &H, room: Room, notes: &N) -> bool {
         let Some(mut mail) = self.mail.try_lock() else {
             return false;
         };
         if mail.turn != Turn::Dispatcher {
             return false;
         }
-        match self.advance(host, &mut mail, outbox, notes) {
+        match self.advance(host, &mut mail, room, notes) {
             Progress::Done => false,
             Progress::More => true,
             Progress::Stuck => {
@@ -90,13 +108,7 @@ impl<H: Host> Line<H> {
         }
     }
 
-    fn advance<N: Notes>(
-        &self,
-        host: &H,
-        mail: &mut Mail<H>,
-        outbox: usize,
-        notes: &N,
-    ) -> Progress {
+    fn advance<N: Notes>(&self, host: &H, mail: &mut Mail<H>, room: Room, notes: &N) -> Progress {
         let gathered = mail.gather(host, self.session(), self.delivery, notes);
         if !mail.frames.is_empty() {
             let len = mail.frames.len() as u64;
@@ -109,30 +121,25 @@ impl<H: Host> Line<H> {
             notes.count_of(self.session(), Count::Written, len);
         }
         if matches!(gathered, Progress::Done) {
-            if mail.taken >= outbox {
+            if room.is_full_of(mail.taken) {
                 return Progress::Stuck;
             }
-            mail.taken = 0;
+            mail.taken = Load::none();
         }
         gathered
     }
 
     /// Sends events in the connection's own thread whenever it is its turn. It ends after the session has left and all events
     /// are sent, or if a write fails, or if memory is refused for an event.
-    pub fn send_turns<N: Notes>(
-        &self,
-        host: &H,
-        shared: &Shared<H>,
-        dispatcher: &Dispatcher<H>,
-        notes: &N,
-    ) {
+    pub fn send_turns<N: Notes>(&self, server: &Server<'_, H, N>, dispatcher: &Dispatcher<H>) {
+        let host = server.host;
         for _ in host.forever() {
             let mut mail = self.changed.wait_while(
                 host,
                 self.mail.lock(host),
                 |mail| mail.turn == Turn::Dispatcher,
             );
-            if mail.failed || self.send_all(host, shared, &mut mail, notes).is_err() {
+            if mail.failed || self.send_all(server, &mut mail).is_err() {
                 return;
             }
             if mail.turn == Turn::Last {
@@ -146,38 +153,38 @@ impl<H: Host> Line<H> {
     }
 
     /// Sends all events in the connection's own thread, without the dispatcher, until `event_loop` ends.
-    pub fn send_alone<N: Notes>(&self, host: &H, alloc: Global, shared: &Shared<H>, notes: &N) {
-        let mut mail = self.mail.lock(host);
-        event_loop(
-            host,
-            alloc,
-            shared,
-            &self.seat,
-            &mut mail.inbox,
-            &self.sink,
-            self.delivery,
-            notes,
-        );
+    pub fn send_alone<N: Notes>(&self, server: &Server<'_, H, N>) {
+        let mut mail = self.mail.lock(server.host);
+        event_loop(server, &self.seat, &mut mail.inbox, &self.sink);
     }
 
     fn send_all<N: Notes>(
         &self,
-        host: &H,
-        shared: &Shared<H>,
+        server: &Server<'_, H, N>,
         mail: &mut Mail<H>,
-        notes: &N,
-    ) -> Result<(), Unwritten> {
+    ) -> Result<(), Unwritten>
+        ensures long { mail.new.long ≡ None }
+        ensures whole { OnOk result (mail.new.frames.items ≡ []) }
+        ensures sent { OnOk result
+            ((bytes : List ℕ)
+            × Forwards self.now.seat self.now.delivery (mailbox_of mail.old.inbox)
+            (received mail.old.inbox) (received mail.new.inbox) bytes) }
+        ensures end { OnOk result
+            (NothingLeft self.now.seat (mailbox_of mail.old.inbox) (received mail.new.inbox)
+            ⊎ IsBelowSince server.now.shared.now.room mail.old.taken (received mail.old.inbox)
+            (received mail.new.inbox)) }
+    {
         let long = mail.long.take();
-        let taken = mem::replace(&mut mail.taken, 0);
+        let taken = mem::replace(&mut mail.taken, Load::none());
         let mut events = Events {
-            host,
-            shared,
+            host: server.host,
+            shared: server.shared,
             seat: self.seat,
             inbox: &mut mail.inbox,
             frames: &mut mail.frames,
-            outlet: SharedSink::new(host, &self.sink),
+            outlet: SharedSink::new(server.host, &self.sink),
             delivery: self.delivery,
-            notes,
+            notes: server.gate,
         };
         events.resume(long, taken)
     }

@@ -1,5 +1,8 @@
 //! Listeners for clients, and the differences between the two kinds of socket.
 
+ghost use Rattle.std.specs.Prelude.{◌≡◌, IfOk};
+ghost use Rattle.tab_server.specs.Kinds.{family_of};
+
 use std::io;
 use std::io::Write;
 use std::net::{Shutdown, TcpListener, TcpStream};
@@ -42,7 +45,9 @@ impl Listener {
     }
 
     /// Waits for a client. Returns an error if the system gives none, for example if no descriptor is left.
-    pub fn accept(&self) -> io::Result<Accepted> {
+    pub fn accept(&self) -> io::Result<Accepted>
+        ensures { IfOk result (λ accepted. accepted.family ≡ family_of self.now) }
+    {
         match self {
             Listener::Tcp(listener) => {
                 let (stream, _peer) = listener.accept()?;

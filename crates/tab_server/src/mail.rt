@@ -1,6 +1,6 @@
 //! The events that wait to be sent on a connection.
 
-ghost use Rattle.std.specs.Prelude.{◌≡◌, IfNone, IsFalse};
+ghost use Rattle.std.specs.Prelude.{◌≡◌, [], IfNone, IsFalse, None};
 ghost use Rattle.tab_post.specs.Ends.{received};
 ghost use Rattle.tab_server.specs.Gathered.{Adds, Gathers};
 
@@ -8,7 +8,7 @@ use crate::events::is_long;
 use crate::gate::{Count, Notes};
 use std::alloc::Global;
 use tab_model::SharedItem;
-use tab_post::{Host, Inbox};
+use tab_post::{Host, Inbox, Load};
 use tab_proto::{Delivery, append_item};
 use tab_sink::kept::KEPT;
 
@@ -30,8 +30,8 @@ pub struct Mail<H: Host> {
     /// The frames of items from the inbox, and the item after them if it is too long to be kept whole.
     pub frames: Vec<u8>,
     pub long: Option<SharedItem>,
-    /// The number of items that were taken since the inbox was found empty.
-    pub taken: usize,
+    /// The items that were taken since the inbox was found empty.
+    pub taken: Load,
     pub turn: Turn,
     /// True if memory was refused for an event.
     pub failed: bool,
@@ -50,12 +50,17 @@ pub enum Progress {
 
 impl<H: Host> Mail<H> {
     /// Nothing is taken yet.
-    pub fn new(alloc: Global, inbox: Inbox<H>) -> Mail<H> {
+    pub fn new(alloc: Global, inbox: Inbox<H>) -> Mail<H>
+        ensures inbox { result.inbox ≡ inbox }
+        ensures frames { (result.frames.items ≡ []) × (result.long ≡ None) }
+        ensures taken { result.taken ≡ record { items = 0; bytes = 0 } }
+        ensures turn { (result.turn ≡ Turn.Dispatcher) × IsFalse result.failed }
+    {
         Mail {
             inbox,
             frames: Vec::new(alloc),
             long: None,
-            taken: 0,
+            taken: Load::none(),
             turn: Turn::Dispatcher,
             failed: false,
         }
@@ -97,7 +102,7 @@ impl<H: Host> Mail<H> {
         let Some(item) = self.inbox.try_receive() else {
             return Some(Progress::Done);
         };
-        self.taken = self.taken.saturating_add(1);
+        self.taken = self.taken.with(&item);
         if is_long(item.item()) {
             self.long = Some(item);
             return Some(Progress::Stuck);

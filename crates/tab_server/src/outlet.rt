@@ -1,6 +1,6 @@
 //! The way of a session's frames.
 
-ghost use Rattle.std.specs.Prelude.{◌≡◌, ◌∷◌, ◌++◌, ℕ, Bool, List, Option, None, IsTrue, IsFalse, OnOk, OnErr};
+ghost use Rattle.std.specs.Prelude.{◌≡◌, ◌∷◌, ◌++◌, ℕ, Bool, false, List, Option, None, IsTrue, IsFalse, OnOk, OnErr};
 ghost use Rattle.std.specs.Io.KnownBytes.{Appends};
 ghost use Rattle.tab_term.specs.Canon.{canon};
 ghost use Rattle.tab_etf.specs.Frames.{frame};
@@ -101,7 +101,9 @@ pub struct SharedSink<'a, R, W> {
 
 impl<'a, R: Wait, W: Write> SharedSink<'a, R, W> {
     /// Nothing has failed yet.
-    pub fn new(rt: &'a R, sink: &'a FrameSink<W>) -> SharedSink<'a, R, W> {
+    pub fn new(rt: &'a R, sink: &'a FrameSink<W>) -> SharedSink<'a, R, W>
+        ensures { result ≡ record { rt = rt.entry; sink = sink.entry; failed = false } }
+    {
         SharedSink {
             rt,
             sink,

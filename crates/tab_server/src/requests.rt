@@ -2,6 +2,7 @@
 
 ghost use Rattle.std.specs.Prelude.{◌≡◌, ◌<◌, ◌≤◌, ◌⊎◌, [], ◌∷◌, ◌++◌, List, ℕ, Option, Some, IfErr, IfOk, IsErr, IsFalse, IsTrue, OnErr, OnOk, MatchOption, length};
 ghost use Rattle.std.specs.Io.KnownBytes.{IsAtEnd};
+ghost use mathlib.Core.List.{IsPrefix};
 ghost use Rattle.tab_etf.specs.Frames.{contents, payload_of};
 ghost use Rattle.tab_model.specs.declared.data.Reply.{Reply as ReplyOf};
 ghost use Rattle.tab_server.specs.declared.incoming.Incoming.{Incoming as IncomingOf};
@@ -20,6 +21,7 @@ use crate::line::Line;
 use crate::outlet::{Outlet, SharedSink};
 use crate::place::Place;
 use crate::puts::Puts;
+use crate::server::Server;
 use crate::silence::Silence;
 use crate::steps::Behind;
 use crate::transactions::Transactions;
@@ -39,7 +41,6 @@ const PIECE: usize = 65_536;
 /// The requests of one connection, and the session that runs their commands. The book is locked from a command's first
 /// step until it waits, backs off or is answered. Before it waits or backs off, the answers are written. If the wait is
 /// longer than one sleep the stream is watched.
-#[derive(Drop)]
 pub struct Requests<'a, H: Host, O: Outlet, G: Gate> {
     pub alloc: Global,
     pub host: &'a H,
@@ -64,6 +65,32 @@ pub struct Requests<'a, H: Host, O: Outlet, G: Gate> {
     pub aborted: bool,
 }
 
+// A derived Drop would be taken apart, field by field, where `serve_session` ends, and the borrow checker can't join that.
+impl<'a, H: Host, O: Outlet + Drop, G: Gate> Drop for Requests<'a, H, O, G> {
+    fn drop(self) {
+        let Requests {
+            alloc: _,
+            host: _,
+            shared: _,
+            seat: _,
+            watch: _,
+            line: _,
+            dispatcher: _,
+            answers,
+            held,
+            transactions: _,
+            puts: _,
+            place: _,
+            silence: _,
+            aborts: _,
+            behind: _,
+            aborted: _,
+        } = self;
+        drop(answers);
+        drop(held);
+    }
+}
+
 /// The reason that no more requests of a session are answered.
 #[derive(Clone, Copy, Debug, PartialEq, Eq)]
 pub enum Ending {
@@ -76,32 +103,30 @@ pub enum Ending {
 /// Answers the requests of a session in order. Then the session leaves. It stops if the stream ends, a read or a write
 /// fails, or a frame is too long. It also stops if there is no memory for a reply's frame, or a read takes too long
 /// while the transaction is open.
-pub fn serve_session<H: Host, R: Read, G: Gate>(
-    host: &H,
-    alloc: Global,
-    shared: &Shared<H>,
-    seat: &Seat,
-    connection: &Connection<H>,
-    dispatcher: &Dispatcher<H>,
+pub fn serve_session<'a, H: Host, R: Read, G: Gate>(
+    server: &'a Server<'a, H, G>,
+    dispatcher: &'a Dispatcher<H>,
+    connection: &'a Connection<H>,
     reader: &mut R,
-    gate: &G,
 ) -> Ending {
+    let host = server.host;
+    let seat = connection.line.seat();
     let outlet = SharedSink::new(host, &connection.line.sink);
     let mut requests = Requests {
-        alloc,
+        alloc: server.alloc,
         host,
-        shared,
+        shared: server.shared,
         seat: *seat,
         watch: &connection.watch,
         line: &connection.line,
         dispatcher,
-        answers: Answers::new(alloc, outlet, gate, seat.session()),
-        held: Held::new(host, shared),
+        answers: Answers::new(server.alloc, outlet, server.gate, seat.session()),
+        held: Held::new(host, server.shared),
         transactions: Transactions::new(seat.session()),
         puts: Puts::new(),
         place: Place::new(),
-        silence: Silence::new(connection.settings),
-        aborts: connection.settings.aborts,
+        silence: Silence::new(server.settings),
+        aborts: server.settings.aborts,
         behind: Behind::Nothing,
         aborted: false,
     };
@@ -123,7 +148,9 @@ impl<'a, H: Host, O: Outlet, G: Gate> Requests<'a, H, O, G> {
     /// The session leaves, and its transaction ends.
     fn leave(&mut self) {
         self.give_back();
-        let left = self.shared.leave(self.host, &self.seat);
+        let left = self
+            .shared
+            .leave(self.host, &self.seat, &mut self.held.seen);
         self.line.end(self.host);
         self.transactions.step(left);
         self.transactions.count(self.answers.counts());
@@ -132,13 +159,13 @@ impl<'a, H: Host, O: Outlet, G: Gate> Requests<'a, H, O, G> {
     /// Answers the requests of a stream until it ends, or the session is idle for too long.
     fn stream<R: Read>(&mut self, reader: &mut R) -> Result<Ending, Unwritten>
         ensures answered { OnOk result (IsStreamAnswered O.sent O.broken self.old.seat
-            (R.remaining reader.old) (R.remaining reader.new) self.old.answers self.new.answers) }
+            self.old.held.seen self.new.held.seen (R.remaining reader.old) (R.remaining reader.new) self.old.answers self.new.answers) }
         ensures end { IfOk result (λ end. end ≡ Over → IsAtEnd (R.remaining reader.new)) }
         ensures err { OnErr result (IsFalse (O.broken self.new.answers.outlet)
             → IsStreamAnswered O.sent O.broken self.old.seat
-            (R.remaining reader.old) (R.remaining reader.new) self.old.answers self.new.answers
+            self.old.held.seen self.new.held.seen (R.remaining reader.old) (R.remaining reader.new) self.old.answers self.new.answers
             ⊎ IsStreamStopped O.sent O.broken self.old.seat
-            (R.remaining reader.old) (R.remaining reader.new) self.old.answers self.new.answers) }
+            self.old.held.seen self.new.held.seen (R.remaining reader.old) (R.remaining reader.new) self.old.answers self.new.answers) }
         ensures whole { OnOk result (self.old.answers.frames.items ≡ []
             → self.new.answers.frames.items ≡ []) }
     {
@@ -151,14 +178,14 @@ impl<'a, H: Host, O: Outlet, G: Gate> Requests<'a, H, O, G> {
     /// Reads pieces of a stream into a buffer, and answers their frames.
     fn pieces<R: Read>(&mut self, reader: &mut R, buffer: &mut [u8]) -> Result<Ending, Unwritten>
         ensures answered { OnOk result (IsStreamAnswered O.sent O.broken self.old.seat
-            (R.remaining reader.old) (R.remaining reader.new) self.old.answers self.new.answers) }
+            self.old.held.seen self.new.held.seen (R.remaining reader.old) (R.remaining reader.new) self.old.answers self.new.answers) }
         ensures end { IfOk result (λ end. end ≡ Over → 0 < length buffer.old
             → IsAtEnd (R.remaining reader.new)) }
         ensures err { OnErr result (IsFalse (O.broken self.new.answers.outlet)
             → IsStreamAnswered O.sent O.broken self.old.seat
-            (R.remaining reader.old) (R.remaining reader.new) self.old.answers self.new.answers
+            self.old.held.seen self.new.held.seen (R.remaining reader.old) (R.remaining reader.new) self.old.answers self.new.answers
             ⊎ IsStreamStopped O.sent O.broken self.old.seat
-            (R.remaining reader.old) (R.remaining reader.new) self.old.answers self.new.answers) }
+            self.old.held.seen self.new.held.seen (R.remaining reader.old) (R.remaining reader.new) self.old.answers self.new.answers) }
         ensures whole { OnOk result (self.old.answers.frames.items ≡ []
             → self.new.answers.frames.items ≡ []) }
     {
@@ -179,16 +206,16 @@ impl<'a, H: Host, O: Outlet, G: Gate> Requests<'a, H, O, G> {
         buffer: &mut [u8],
     ) -> Result<Option<Ending>, Unwritten>
         ensures answered { OnOk result ((at : List ℕ) → IsIn at incoming.old
-            → TakesPart O.sent O.broken self.old.seat (R.remaining reader.old)
-            (R.remaining reader.new) at incoming.old incoming.new self.old.answers self.new.answers) }
+            → TakesPart O.sent O.broken self.old.seat self.old.held.seen self.new.held.seen
+            (R.remaining reader.old) (R.remaining reader.new) at incoming.old incoming.new self.old.answers self.new.answers) }
         ensures end { IfOk result (λ end. end ≡ Some Over → 0 < length buffer.old
             → IsAtEnd (R.remaining reader.new)) }
         ensures err { OnErr result (IsFalse (O.broken self.new.answers.outlet)
             → (at : List ℕ) → IsIn at incoming.old
-            → TakesPart O.sent O.broken self.old.seat (R.remaining reader.old)
-            (R.remaining reader.new) at incoming.old incoming.new self.old.answers self.new.answers
-            ⊎ TakesLast O.sent O.broken self.old.seat (R.remaining reader.old)
-            (R.remaining reader.new) at incoming.old self.old.answers self.new.answers) }
+            → TakesPart O.sent O.broken self.old.seat self.old.held.seen self.new.held.seen
+            (R.remaining reader.old) (R.remaining reader.new) at incoming.old incoming.new self.old.answers self.new.answers
+            ⊎ TakesLast O.sent O.broken self.old.seat self.old.held.seen self.new.held.seen
+            (R.remaining reader.old) (R.remaining reader.new) at incoming.old self.old.answers self.new.answers) }
         ensures whole { OnOk result (self.old.answers.frames.items ≡ []
             → self.new.answers.frames.items ≡ []) }
         ensures seat { self.new.seat ≡ self.old.seat }
@@ -216,6 +243,7 @@ impl<'a, H: Host, O: Outlet, G: Gate> Requests<'a, H, O, G> {
     /// Notes that a read has ended without bytes. Returns whether the session leaves since it is idle.
     fn is_silent(&mut self) -> bool
         ensures seat { self.new.seat ≡ self.old.seat }
+        ensures grows { IsPrefix self.old.held.seen self.new.held.seen }
         ensures answers { self.new.answers ≡ self.old.answers }
     {
         self.silence.pass();
@@ -227,6 +255,7 @@ impl<'a, H: Host, O: Outlet, G: Gate> Requests<'a, H, O, G> {
     /// if none is.
     fn ends_transaction(&mut self) -> bool
         ensures seat { self.new.seat ≡ self.old.seat }
+        ensures grows { IsPrefix self.old.held.seen self.new.held.seen }
         ensures answers { self.new.answers ≡ self.old.answers }
     {
         let reason = Term::List(Terms::from_vec(Vec::new(self.alloc)));
@@ -241,11 +270,13 @@ impl<'a, H: Host, O: Outlet, G: Gate> Requests<'a, H, O, G> {
     /// Answers the frames that are whole with this piece.
     fn piece(&mut self, incoming: &mut Incoming, piece: &[u8]) -> Result<(), Unwritten>
         ensures answered { OnOk result ((at : List ℕ) → IsIn at incoming.old
-            → SendsAnswers O.sent O.broken self.old.seat (at ++ piece.now)
+            → SendsAnswers O.sent O.broken self.old.seat
+            self.old.held.seen self.new.held.seen (at ++ piece.now)
             incoming.old incoming.new self.old.answers self.new.answers) }
         ensures err { OnErr result (IsFalse (O.broken self.new.answers.outlet)
             → (at : List ℕ) → IsIn at incoming.old
-            → SendsLast O.sent O.broken self.old.seat (at ++ piece.now)
+            → SendsLast O.sent O.broken self.old.seat
+            self.old.held.seen self.new.held.seen (at ++ piece.now)
             incoming.old self.old.answers self.new.answers) }
         ensures whole { OnOk result (self.old.answers.frames.items ≡ []
             → self.new.answers.frames.items ≡ []) }
@@ -265,11 +296,13 @@ impl<'a, H: Host, O: Outlet, G: Gate> Requests<'a, H, O, G> {
     fn feed(&mut self, incoming: &mut Incoming, piece: &[u8]) -> Result<(), Unwritten>
         ensures answered { OnOk result ((at : List ℕ) → IsIn at incoming.old
             → IsFalse incoming.old.skips
-            → SendsAnswers O.sent O.broken self.old.seat (at ++ piece.now)
+            → SendsAnswers O.sent O.broken self.old.seat
+            self.old.held.seen self.new.held.seen (at ++ piece.now)
             incoming.old incoming.new self.old.answers self.new.answers) }
         ensures err { OnErr result (IsFalse (O.broken self.new.answers.outlet)
             → (at : List ℕ) → IsIn at incoming.old → IsFalse incoming.old.skips
-            → SendsLast O.sent O.broken self.old.seat (at ++ piece.now)
+            → SendsLast O.sent O.broken self.old.seat
+            self.old.held.seen self.new.held.seen (at ++ piece.now)
             incoming.old self.old.answers self.new.answers) }
         ensures whole { OnOk result (self.old.answers.frames.items ≡ []
             → self.new.answers.frames.items ≡ []) }
@@ -291,7 +324,8 @@ impl<'a, H: Host, O: Outlet, G: Gate> Requests<'a, H, O, G> {
     fn too_long(&mut self, incoming: &Incoming) -> Result<(), Unwritten>
         ensures err { IsErr result }
         ensures last { IsFalse (O.broken self.new.answers.outlet)
-            → AnswersTooLong O.sent O.broken self.old.seat incoming.now.splitter.before
+            → AnswersTooLong O.sent O.broken self.old.seat
+            self.old.held.seen self.new.held.seen incoming.now.splitter.before
             self.old.answers self.new.answers }
         ensures seat { self.new.seat ≡ self.old.seat }
     {
@@ -305,11 +339,13 @@ impl<'a, H: Host, O: Outlet, G: Gate> Requests<'a, H, O, G> {
     fn one_by_one(&mut self, incoming: &mut Incoming, piece: &[u8]) -> Result<(), Unwritten>
         ensures answered { OnOk result ((at : List ℕ) → IsIn at incoming.old
             → IsFalse incoming.old.skips
-            → SendsAnswers O.sent O.broken self.old.seat (at ++ piece.now)
+            → SendsAnswers O.sent O.broken self.old.seat
+            self.old.held.seen self.new.held.seen (at ++ piece.now)
             incoming.old incoming.new self.old.answers self.new.answers) }
         ensures err { OnErr result (IsFalse (O.broken self.new.answers.outlet)
             → (at : List ℕ) → IsIn at incoming.old → IsFalse incoming.old.skips
-            → SendsLast O.sent O.broken self.old.seat (at ++ piece.now)
+            → SendsLast O.sent O.broken self.old.seat
+            self.old.held.seen self.new.held.seen (at ++ piece.now)
             incoming.old self.old.answers self.new.answers) }
         ensures whole { OnOk result (self.old.answers.frames.items ≡ []
             → self.new.answers.frames.items ≡ []) }
@@ -337,13 +373,15 @@ impl<'a, H: Host, O: Outlet, G: Gate> Requests<'a, H, O, G> {
         ensures answered { OnOk result ((bytes : List ℕ) (old : IncomingOf) → IsFalse old.skips
             → IfOk taken (λ frames. Gives bytes incoming.now (contents frames.items))
             → IfErr taken (λ e. IsSkipped e bytes old incoming.now)
-            → SendsAnswers O.sent O.broken self.old.seat bytes old incoming.now
+            → SendsAnswers O.sent O.broken self.old.seat
+            self.old.held.seen self.new.held.seen bytes old incoming.now
             self.old.answers self.new.answers) }
         ensures err { OnErr result (IsFalse (O.broken self.new.answers.outlet)
             → (bytes : List ℕ) (old : IncomingOf) → IsFalse old.skips
             → IfOk taken (λ frames. Gives bytes incoming.now (contents frames.items))
             → IfErr taken (λ e. IsSkipped e bytes old incoming.now)
-            → SendsLast O.sent O.broken self.old.seat bytes old self.old.answers self.new.answers) }
+            → SendsLast O.sent O.broken self.old.seat
+            self.old.held.seen self.new.held.seen bytes old self.old.answers self.new.answers) }
         ensures whole { OnOk result (self.new.answers.frames.items ≡ []) }
         ensures seat { self.new.seat ≡ self.old.seat }
     {
@@ -363,6 +401,7 @@ impl<'a, H: Host, O: Outlet, G: Gate> Requests<'a, H, O, G> {
         ensures whole { OnOk result (self.new.answers.frames.items ≡ []) }
         ensures err { OnErr result (IsTrue (O.broken self.new.answers.outlet)) }
         ensures seat { self.new.seat ≡ self.old.seat }
+        ensures seen { self.new.held.seen ≡ self.old.held.seen }
     {
         self.answers.begin();
         self.answers.keep(reply)?;
@@ -374,7 +413,8 @@ impl<'a, H: Host, O: Outlet, G: Gate> Requests<'a, H, O, G> {
     fn frames(&mut self, frames: &[Frame]) -> Result<(), Unwritten>
         ensures answered { OnOk result
             ((replies : List (Option ReplyOf))
-            × AreAnswered self.old.seat (contents frames.now) replies
+            × AreAnswered self.old.seat self.old.held.seen (contents frames.now) replies
+            self.new.held.seen
             × Sends O.sent O.broken self.old.answers self.new.answers (reply_frames replies)) }
         ensures whole { OnOk result (self.new.answers.frames.items ≡ []) }
         ensures err { OnErr result (IsTrue (O.broken self.new.answers.outlet)) }
@@ -393,7 +433,8 @@ impl<'a, H: Host, O: Outlet, G: Gate> Requests<'a, H, O, G> {
     fn frame(&mut self, frame: &Frame, next: Option<&Frame>) -> Result<(), Unwritten>
         ensures answered { OnOk result
             ((told : Option ReplyOf)
-            × IsAnswered self.old.seat (payload_of frame.now) told
+            × IsAnswered self.old.seat self.old.held.seen (payload_of frame.now) told
+            self.new.held.seen
             × Sends O.sent O.broken self.old.answers self.new.answers
             (reply_frames (told ∷ []))) }
         ensures err { OnErr result (IsTrue (O.broken self.new.answers.outlet)) }
@@ -409,8 +450,10 @@ impl<'a, H: Host, O: Outlet, G: Gate> Requests<'a, H, O, G> {
     /// Replies to a frame. Returns None if an abort has ended its wait.
     #[tactic(auto, unfolding(tab_etf::specs::Reading::whole))]
     fn reply_to_frame(&mut self, frame: &Frame, next: Option<&Frame>) -> Option<SharedReply>
-        ensures reply { MatchOption result (IsEnded self.old.seat (payload_of frame.now))
-            (λ r. IsPayloadReply self.old.seat (payload_of frame.now) r) }
+        ensures reply { MatchOption result
+            (IsEnded self.old.seat self.old.held.seen (payload_of frame.now) self.new.held.seen)
+            (λ r. IsPayloadReply self.old.seat self.old.held.seen (payload_of frame.now) r
+            self.new.held.seen) }
         ensures seat { self.new.seat ≡ self.old.seat }
         ensures sends { Sends O.sent O.broken self.old.answers self.new.answers [] }
     {
@@ -422,8 +465,10 @@ impl<'a, H: Host, O: Outlet, G: Gate> Requests<'a, H, O, G> {
 
     /// Replies to a payload. `next` is the frame after it, if it has come. Returns None if an abort has ended its wait.
     fn payload(&mut self, payload: &[u8], next: Option<&Frame>) -> Option<SharedReply>
-        ensures reply { MatchOption result (IsEnded self.old.seat payload.now)
-            (λ r. IsPayloadReply self.old.seat payload.now r) }
+        ensures reply { MatchOption result
+            (IsEnded self.old.seat self.old.held.seen payload.now self.new.held.seen)
+            (λ r. IsPayloadReply self.old.seat self.old.held.seen payload.now r
+            self.new.held.seen) }
         ensures seat { self.new.seat ≡ self.old.seat }
         ensures sends { Sends O.sent O.broken self.old.answers self.new.answers [] }
     {
@@ -433,7 +478,7 @@ impl<'a, H: Host, O: Outlet, G: Gate> Requests<'a, H, O, G> {
             Err(EtfFault::NoMemory) => return Some(SharedReply::new(Reply::NoMemory)),
         };
         match read_command(self.alloc, held) {
-            Ok(command) => self.command(command, next),
+            Ok(command) => self.command(command, payload, next),
             Err(ProtoFault::BadCommand) => Some(SharedReply::new(Reply::BadCommand)),
             Err(ProtoFault::NoMemory) => Some(SharedReply::new(Reply::NoMemory)),
         }

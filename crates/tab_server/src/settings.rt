@@ -1,7 +1,8 @@
 //! How connections are served.
 
-ghost use Rattle.std.specs.Prelude.{◌≡◌, ◌*◌, option_map};
+ghost use Rattle.std.specs.Prelude.{◌≡◌, ◌*◌, IfSome, option_map};
 ghost use Rattle.std.specs.Duration.{as_nanos};
+ghost use Rattle.tab_server.specs.Idle.{tick_of, IsTicked};
 
 use std::time::Duration;
 use tab_proto::Delivery;
@@ -31,7 +32,11 @@ impl Settings {
     };
 
     /// The seconds after which a read without bytes ends: those of the only limit, or one if there are two.
-    pub(crate) fn tick(&self) -> Option<u32> {
+    pub(crate) fn tick(&self) -> Option<u32>
+        ensures exact { result ≡ tick_of self.now.idle self.now.idle_sessions }
+        ensures idle { IfSome result (λ tick. IsTicked tick self.now.idle) }
+        ensures idle_sessions { IfSome result (λ tick. IsTicked tick self.now.idle_sessions) }
+    {
         match (self.idle, self.idle_sessions) {
             (Some(_), Some(_)) => Some(1),
             (Some(seconds), None) | (None, Some(seconds)) => Some(seconds),

@@ -1,17 +1,20 @@
 //! The commands of a connection's requests, as steps of its session.
 
 ghost use Rattle.std.specs.Prelude.{◌≡◌, ◌≢◌, [], IfOk, IfSome, IsFalse, IsOk, IsTrue, MatchOption};
+ghost use mathlib.Core.List.{IsPrefix};
 ghost use Rattle.tab_model.specs.declared.ask.Ask.TheVariants.{Retry, Do as DoCommand};
 ghost use Rattle.tab_model.specs.declared.data.Reply.TheVariants as reply;
 ghost use Rattle.tab_model.specs.Outcome.{is_abort};
 ghost use Rattle.tab_oneshot.specs.OneShots.{is_one_shot as is_one_shot_command};
 ghost use Rattle.tab_book.specs.Replies.{IsAnswer, IsReply};
 ghost use Rattle.tab_server.specs.Serving.{IsServed, IsSettled};
+ghost use Rattle.tab_server.specs.Rereading.{IsSpelledBy};
 ghost use Rattle.tab_server.specs.Sent.{Sends};
 
 use crate::gate::{Count, Gate};
 use crate::next::is_abort_in;
 use crate::outlet::Outlet;
+use crate::payload::Payload;
 use crate::requests::Requests;
 use crate::troubles::pause;
 use std::alloc::{AllocError, Global};
@@ -47,22 +50,28 @@ fn is_one_shot(command: &Command) -> bool
 }
 
 impl<'a, H: Host, O: Outlet, G: Gate> Requests<'a, H, O, G> {
-    /// Replies to a command. `next` is the frame after it, if it has come. Returns None if an abort has ended its wait.
-    pub fn command(&mut self, command: Command, next: Option<&Frame>) -> Option<SharedReply>
-        ensures served { MatchOption result (IsServed self.old.seat command reply.Waiting)
-            (λ r. IsServed self.old.seat command r) }
+    /// Replies to a command, which the payload is. `next` is the frame after it, if it has come. Returns None if an abort
+    /// has ended its wait.
+    pub fn command(
+        &mut self,
+        command: Command,
+        payload: &[u8],
+        next: Option<&Frame>,
+    ) -> Option<SharedReply>
+        requires { IsSpelledBy payload.now command }
+        ensures served { MatchOption result (IsServed self.old.seat self.old.held.seen command
+            reply.Waiting self.new.held.seen)
+            (λ r. IsServed self.old.seat self.old.held.seen command r self.new.held.seen) }
         ensures seat { self.new.seat ≡ self.old.seat }
         ensures sends { Sends O.sent O.broken self.old.answers self.new.answers [] }
     {
         self.behind = self.end_of_wait(next);
         self.aborted = false;
-        if is_one_shot(&command) {
-            let told = self.run(&command);
-            // Before the command is dropped: it may be long, and others wait for the book.
-            self.give_back();
-            return self.unless_aborted(told);
-        }
-        let told = self.answer(command);
+        let told = if is_one_shot(&command) {
+            self.run(command, payload)
+        } else {
+            self.answer(command)
+        };
         self.give_back();
         self.unless_aborted(told)
     }
@@ -77,15 +86,21 @@ impl<'a, H: Host, O: Outlet, G: Gate> Requests<'a, H, O, G> {
         Some(told)
     }
 
-    /// Runs a one-shot by its driver.
-    fn run(&mut self, command: &Command) -> SharedReply
-        requires { IsTrue (is_one_shot_command command.now) }
-        ensures served { IsServed self.old.seat command.now result }
+    /// Runs a one-shot, which the payload is, by its driver.
+    fn run(&mut self, command: Command, payload: &[u8]) -> SharedReply
+        requires one_shot { IsTrue (is_one_shot_command command) }
+        requires spelled { IsSpelledBy payload.now command }
+        ensures served { IsServed self.old.seat self.old.held.seen command result
+            self.new.held.seen }
         ensures seat { self.new.seat ≡ self.old.seat }
         ensures sends { Sends O.sent O.broken self.old.answers self.new.answers [] }
     {
         let alloc = self.alloc;
-        let told = one_shot(self, alloc, command);
+        let source = Payload {
+            alloc,
+            bytes: payload,
+        };
+        let told = one_shot(self, alloc, command, &source);
         self.count_end(told.reply());
         told
     }
@@ -93,7 +108,8 @@ impl<'a, H: Host, O: Outlet, G: Gate> Requests<'a, H, O, G> {
     /// Makes the step of a command that is no one-shot, and waits for its answer. A session that is restarted backs off first.
     fn answer(&mut self, command: Command) -> SharedReply
         requires { IsFalse (is_one_shot_command command) }
-        ensures served { IsServed self.old.seat command result }
+        ensures served { IsServed self.old.seat self.old.held.seen command result
+            self.new.held.seen }
         ensures seat { self.new.seat ≡ self.old.seat }
         ensures sends { Sends O.sent O.broken self.old.answers self.new.answers [] }
     {
@@ -110,7 +126,8 @@ impl<'a, H: Host, O: Outlet, G: Gate> Requests<'a, H, O, G> {
     /// Returns the reply of a step, or if that is `Waiting` the reply after the wait. If an abort or a failed write ends the
     /// wait, it returns `Waiting`.
     fn settled(&mut self, told: SharedReply) -> SharedReply
-        ensures reply { IsSettled self.old.seat told result }
+        ensures reply { IsSettled self.old.seat self.old.held.seen told result
+            self.new.held.seen }
         ensures seat { self.new.seat ≡ self.old.seat }
         ensures sends { Sends O.sent O.broken self.old.answers self.new.answers [] }
     {
@@ -127,6 +144,7 @@ impl<'a, H: Host, O: Outlet, G: Gate> Requests<'a, H, O, G> {
     /// Counts a restart, and backs off for at most `naps` sleeps.
     fn restarted(&mut self, naps: u32)
         ensures seat { self.new.seat ≡ self.old.seat }
+        ensures seen { self.new.held.seen ≡ self.old.held.seen }
         ensures sends { Sends O.sent O.broken self.old.answers self.new.answers [] }
     {
         self.answers.counts().count(Count::Restarts, 1);
@@ -145,6 +163,7 @@ impl<'a, H: Host, O: Outlet, G: Gate> Requests<'a, H, O, G> {
     /// it rings the dispatcher.
     pub fn give_back(&mut self)
         ensures seat { self.new.seat ≡ self.old.seat }
+        ensures seen { self.new.held.seen ≡ self.old.held.seen }
         ensures answers { self.new.answers ≡ self.old.answers }
     {
         self.held.give_back();
@@ -157,7 +176,9 @@ impl<'a, H: Host, O: Outlet, G: Gate> Requests<'a, H, O, G> {
     /// Makes one step of the session; the book stays locked.
     pub fn make(&mut self, command: Command) -> Result<SharedReply, AllocError>
         ensures abort { IsTrue (is_abort command) → IsOk result }
-        ensures reply { IfOk result (λ r. IsReply self.old.seat (DoCommand command) r) }
+        ensures reply { IfOk result (λ r. IsReply self.old.held.seen self.new.held.seen
+            self.old.seat (DoCommand command) r) }
+        ensures grows { IsPrefix self.old.held.seen self.new.held.seen }
         ensures seat { self.new.seat ≡ self.old.seat }
         ensures answers { self.new.answers ≡ self.old.answers }
     {
@@ -174,6 +195,7 @@ impl<'a, H: Host, O: Outlet, G: Gate> Requests<'a, H, O, G> {
     fn reply_to(&mut self, answered: Answered) -> SharedReply
         ensures reply { result ≡ answered.told }
         ensures seat { self.new.seat ≡ self.old.seat }
+        ensures seen { self.new.held.seen ≡ self.old.held.seen }
         ensures answers { self.new.answers ≡ self.old.answers }
     {
         let Answered {
@@ -198,6 +220,7 @@ impl<'a, H: Host, O: Outlet, G: Gate> Requests<'a, H, O, G> {
     /// Backs off after a restart until the session's lock is free. The stream is watched after the first sleep.
     fn rest(&mut self, naps: u32)
         ensures seat { self.new.seat ≡ self.old.seat }
+        ensures seen { self.new.held.seen ≡ self.old.held.seen }
         ensures sends { Sends O.sent O.broken self.old.answers self.new.answers [] }
     {
         if matches!(self.held.rest(&self.seat), Rest::Over | Rest::Free) {
@@ -217,7 +240,9 @@ impl<'a, H: Host, O: Outlet, G: Gate> Requests<'a, H, O, G> {
     /// The answer of the operation that waits. None if an abort has ended the wait, or no one is left to be answered.
     fn lock(&mut self) -> Option<Answered>
         ensures over { IfSome result (λ a. a.told ≢ reply.Waiting) }
-        ensures answer { IfSome result (λ a. IsAnswer self.old.seat Retry a) }
+        ensures answer { IfSome result (λ a.
+            IsAnswer self.old.held.seen self.new.held.seen self.old.seat Retry a) }
+        ensures grows { IsPrefix self.old.held.seen self.new.held.seen }
         ensures seat { self.new.seat ≡ self.old.seat }
         ensures sends { Sends O.sent O.broken self.old.answers self.new.answers [] }
     {
@@ -228,7 +253,10 @@ impl<'a, H: Host, O: Outlet, G: Gate> Requests<'a, H, O, G> {
             self.aborted = true;
             return None;
         }
-        if let Ok(Some(answered)) = self.shared.retry_for(self.host, &self.seat, 1) {
+        let first = self
+            .shared
+            .retry_for(self.host, &self.seat, 1, &mut self.held.seen);
+        if let Ok(Some(answered)) = first {
             return Some(answered);
         }
         self.watch.begin(self.host, self.behind == Behind::Stream);
@@ -241,13 +269,20 @@ impl<'a, H: Host, O: Outlet, G: Gate> Requests<'a, H, O, G> {
     /// The answer of the request that waits; None if an abort ends its wait. If memory is refused while it asks again,
     /// the request is still in the queue, and a connection has no reply for that. So it waits on, and asks again after
     /// a pause.
-    fn granted(&self) -> Option<Answered>
+    fn granted(&mut self) -> Option<Answered>
         ensures over { IfSome result (λ a. a.told ≢ reply.Waiting) }
-        ensures answer { IfSome result (λ a. IsAnswer self.now.seat Retry a) }
+        ensures answer { IfSome result (λ a.
+            IsAnswer self.old.held.seen self.new.held.seen self.old.seat Retry a) }
+        ensures grows { IsPrefix self.old.held.seen self.new.held.seen }
+        ensures seat { self.new.seat ≡ self.old.seat }
+        ensures answers { self.new.answers ≡ self.old.answers }
     {
         let aborted = self.watch.aborted();
         for _ in self.host.forever() {
-            if let Ok(answered) = self.shared.retry_until(self.host, &self.seat, aborted) {
+            let answered = self
+                .shared
+                .retry_until(self.host, &self.seat, aborted, &mut self.held.seen);
+            if let Ok(answered) = answered {
                 return answered;
             }
             pause(self.host);
@@ -263,12 +298,12 @@ impl<'a, H: Host, O: Outlet, G: Gate> Steps for Requests<'a, H, O, G> {
     ghost use Rattle.tab_server.specs.Laws.{sends_none, sends_on};
 
     ghost shows = { λ x calls y.
-        Serves x.seat calls y.seat × Sends O.sent O.broken x.answers y.answers [] };
+        Serves x.seat x.held.seen calls y.seat y.held.seen × Sends O.sent O.broken x.answers y.answers [] };
 
-    ghost shows_none = { λ x. (serves_none x.seat, sends_none O.sent O.broken x.answers) };
+    ghost shows_none = { λ x. (serves_none x.seat x.held.seen, sends_none O.sent O.broken x.answers) };
 
     ghost shows_on = { λ x y z first more h k. (
-      serves_on x.seat y.seat z.seat first more h.0 k.0,
+      serves_on x.seat y.seat z.seat x.held.seen y.held.seen z.held.seen first more h.0 k.0,
       sends_on O.sent O.broken x.answers y.answers z.answers [] [] h.1 k.1,
     ) };
 

@@ -1,5 +1,7 @@
 //! What keeps a server from accepting.
 
+ghost use Rattle.std.specs.Prelude.{◌≡◌, false, true};
+
 use crate::gate::{Note, Notes};
 use std::sync::{Condvar, Wait};
 use std::time::Duration;
@@ -23,12 +25,16 @@ pub struct Troubles<'n, N: Notes> {
 
 impl<'n, N: Notes> Troubles<'n, N> {
     /// None yet.
-    pub fn new(notes: &'n N) -> Troubles<'n, N> {
+    pub fn new(notes: &'n N) -> Troubles<'n, N>
+        ensures { result ≡ record { notes = notes.entry; told = false } }
+    {
         Troubles { notes, told: false }
     }
 
     /// Reports a failure, and pauses.
-    pub fn tell<R: Wait>(&mut self, rt: &R, note: Note) {
+    pub fn tell<R: Wait>(&mut self, rt: &R, note: Note)
+        ensures { self.new ≡ record self.old { told = true } }
+    {
         if !self.told {
             self.told = true;
             self.notes.note(note);
@@ -37,7 +43,9 @@ impl<'n, N: Notes> Troubles<'n, N> {
     }
 
     /// A connection was accepted.
-    pub fn are_over(&mut self) {
+    pub fn are_over(&mut self)
+        ensures { self.new ≡ record self.old { told = false } }
+    {
         self.told = false;
     }
 }

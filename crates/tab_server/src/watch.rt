@@ -1,5 +1,7 @@
 //! A stream is watched while its session waits for a lock.
 
+ghost use Rattle.std.specs.Prelude.{◌≡◌, ◌↔◌, IsTrue};
+
 use std::sync::atomic::{AtomicBool, Ordering};
 use std::sync::{Condvar, Mutex, Wait};
 
@@ -28,7 +30,10 @@ struct Doing {
 }
 
 impl Doing {
-    fn is_in(self, wait: Waited) -> bool {
+    /// Returns whether this wait goes on.
+    fn is_in(self, wait: Waited) -> bool
+        ensures { IsTrue result ↔ ((self.phase ≡ Phase.Waiting) × (self.wait ≡ wait)) }
+    {
         self.phase == Phase::Waiting && self.wait == wait
     }
 }
@@ -121,7 +126,9 @@ impl Watch {
     }
 
     /// True once an abort has ended the last wait.
-    pub fn aborted(&self) -> &AtomicBool {
+    pub fn aborted(&self) -> &AtomicBool
+        ensures { result.now ≡ self.now.aborted }
+    {
         &self.aborted
     }
 

@@ -13,12 +13,15 @@ use std::test::*;
 use std::thread::Threads;
 use std::time::{Clock, Duration};
 use std::{io, thread};
-use tab_book::{Book, Shared};
+use tab_book::{Book, Opened, Shared};
 use tab_model::Limits;
-use tab_post::{Channel, Host, Naming, Opened};
-use tab_server::{Count, Counts, Gate, Listener, Note, Notes, Settings, serve};
+use tab_post::{Host, Naming, Room};
+use tab_server::{Count, Counts, Gate, Listener, Note, Notes, Server, Settings};
 
 pub const LIMITS: Limits = Limits::STANDARD;
+
+/// The clients that `ask` connects.
+const CONNECTIONS: u32 = 2;
 
 const TURNS: u32 = 10_000;
 
@@ -181,28 +184,19 @@ fn ask<R: Net<Stream = TcpStream>>(rt: &R, address: SocketAddr) -> io::Result<bo
 
 /// Counts a server that ended well.
 fn serve_all<H: Host + Threads + Send + Sync, G: Gate + Notes + Sync>(
-    host: &H,
-    alloc: Global,
+    server: &Server<'_, H, G>,
     listener: &Listener,
-    shared: &Shared<H>,
-    count: u32,
-    gate: &G,
     served: &AtomicU64,
 ) {
-    let plain = Settings::PLAIN;
-    if serve(host, alloc, listener, shared, count, plain, gate).is_ok() {
+    if server.serve(listener, CONNECTIONS).is_ok() {
         served.fetch_add(1, Ordering::SeqCst);
     }
 }
 
-/// Serves `count` connections while clients send requests.
+/// Serves connections while clients send requests.
 fn beside<H, R, G>(
-    host: &H,
     rt: &R,
-    alloc: Global,
-    shared: &Shared<H>,
-    gate: &G,
-    count: u32,
+    server: &Server<'_, H, G>,
     listener: &Listener,
     address: SocketAddr,
     served: &AtomicU64,
@@ -212,10 +206,8 @@ where
     R: Net<Listener = TcpListener, Stream = TcpStream>,
     G: Gate + Notes + Sync,
 {
-    thread::scope(thread::scope_env(), host, |scope| {
-        let serving = scope.spawn(move || serve_all(
-            host, alloc, listener, shared, count, gate, served,
-        ));
+    thread::scope(thread::scope_env(), server.host, |scope| {
+        let serving = scope.spawn(move || serve_all(server, listener, served));
         if serving.is_err() {
             return false;
         }
@@ -227,36 +219,30 @@ where
 }
 
 /// On a book of its own: whether both are answered, and the server ends.
-fn run<H, R, G>(
-    host: H,
-    rt: &R,
-    alloc: Global,
-    opened: Opened<Channel>,
-    gate: &G,
-) -> Result<bool, Fail>
+fn run<H, R, G>(host: H, rt: &R, alloc: Global, opened: Opened, gate: &G) -> Result<bool, Fail>
 where
     H: Host + Threads + Send + Sync,
     R: Net<Listener = TcpListener, Stream = TcpStream>,
     G: Gate + Notes + Sync,
-    requires { opened ≡ H.book }
+    requires { opened ≡ H.books }
 {
     let listener = TcpListener::bind(rt, ("127.0.0.1", 0)).map_err(|_| "bind")?;
     let address = listener.local_addr().map_err(|_| "address")?;
     let listener = Listener::Tcp(listener);
-    let shared = Shared::new(Book::new(host, alloc, opened, LIMITS)?, 64);
+    let shared = Shared::new(Book::new(host, alloc, opened, LIMITS)?, Room::of(64));
     let served = AtomicU64::new(0);
-    let right = beside(
-        &host, rt, alloc, &shared, gate, 2, &listener, address, &served,
-    );
+    let server = Server {
+        host: &host,
+        alloc,
+        shared: &shared,
+        settings: Settings::PLAIN,
+        gate,
+    };
+    let right = beside(rt, &server, &listener, address, &served);
     Ok(right && served.load(Ordering::SeqCst) == 1)
 }
 
-fn run_named<J, R, G>(
-    rt: &R,
-    alloc: Global,
-    opened: Opened<Channel>,
-    gate: &G,
-) -> Result<bool, Fail>
+fn run_named<J, R, G>(rt: &R, alloc: Global, opened: Opened, gate: &G) -> Result<bool, Fail>
 where
     J: Naming + Send + Sync,
     R: Net<Listener = TcpListener, Stream = TcpStream>
@@ -267,7 +253,7 @@ where
         + Send
         + Sync,
     G: Gate + Notes + Sync,
-    requires { opened ≡ J.book }
+    requires { opened ≡ J.books }
 {
     run((*rt, PhantomData::<J>), rt, alloc, opened, gate)
 }

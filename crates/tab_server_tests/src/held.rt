@@ -11,10 +11,10 @@ use std::sync::{Mutex, Wait};
 use std::test::*;
 use std::thread::Threads;
 use std::{io, thread};
-use tab_book::{Book, Drained, Seat, Shared};
+use tab_book::{Book, Drained, Opened, Seat, Shared};
 use tab_model::{Command, Level, Operation, Reply, Schema};
-use tab_post::{Channel, Host, Inbox, Naming, Opened};
-use tab_server::{Delivery, FrameSink, Open, event_loop};
+use tab_post::{Host, Inbox, Naming, Room};
+use tab_server::{FrameSink, Open, Server, Settings, event_loop};
 use tab_term::Terms;
 use tab_test_tools::Shape::{Atom, Int, Tuple};
 use tab_test_tools::{Shape, atom, build};
@@ -25,6 +25,18 @@ struct Pipe {
     written: Mutex<Vec<u8>>,
     reached: AtomicBool,
     open: AtomicBool,
+}
+
+/// A session, and the mailbox of its events.
+#[derive(Drop)]
+struct Client<H: Host> {
+    seat: Seat,
+    inbox: Inbox<H>,
+}
+
+fn join<H: Host>(host: &H, shared: &Shared<H>) -> Result<Client<H>, Fail> {
+    let (seat, inbox) = shared.join(host, &mut shared.seen()).map_err(|_| "join")?;
+    Ok(Client { seat, inbox })
 }
 
 /// Its first write waits until the pipe is open.
@@ -72,25 +84,33 @@ fn is_committed(reply: &Reply, wanted: u64) -> bool {
 
 /// Returns whether a record is written and committed, as the commit with this number.
 fn commit<H: Host>(
-    host: &H,
-    alloc: Global,
-    shared: &Shared<H>,
+    server: &Server<'_, H, Open>,
     seat: &Seat,
     record: &Shape,
     number: u64,
 ) -> Result<bool, AllocError> {
-    let write = Command::Do(Operation::Write(build(alloc, record)?));
-    shared.call(host, seat, Command::Begin)?;
-    shared.call(host, seat, write)?;
-    let told = shared.call(host, seat, Command::Commit)?;
+    let write = Command::Do(Operation::Write(build(server.alloc, record)?));
+    server.shared.call(server.host, seat, Command::Begin, &mut server.shared.seen())?;
+    server
+        .shared
+        .call(server.host, seat, write, &mut server.shared.seen())?;
+    let told = server.shared.call(
+        server.host,
+        seat,
+        Command::Commit,
+        &mut server.shared.seen(),
+    )?;
     Ok(is_committed(told.reply(), number))
 }
 
 /// The number of items that were there for a session; None if it overflowed or left.
-fn taken<H: Host>(host: &H, shared: &Shared<H>, seat: &Seat, inbox: &mut Inbox<H>) -> Option<u32> {
+fn taken<H: Host>(server: &Server<'_, H, Open>, client: &mut Client<H>) -> Option<u32> {
     let mut count = 0u32;
-    for _ in host.forever() {
-        match shared.drained(host, seat, inbox) {
+    for _ in server.host.forever() {
+        match server
+            .shared
+            .drained(server.host, &client.seat, &mut client.inbox)
+        {
             Drained::Going(_) => count = count.saturating_add(1),
             Drained::AllTaken => return Some(count),
             Drained::Overflow(_) | Drained::Left => return None,
@@ -120,97 +140,91 @@ fn wait_for<H: Host>(host: &H, pipe: &Pipe, size: usize) {
 /// Makes three commits while the event thread is blocked, of which the writer itself gets each event. Then that thread
 /// writes, and the reader leaves.
 fn commit_all<H: Host>(
-    host: &H,
-    alloc: Global,
-    shared: &Shared<H>,
-    writer: &Seat,
-    mut inbox: Inbox<H>,
+    server: &Server<'_, H, Open>,
+    mut writer: Client<H>,
     reader: &Seat,
     pipe: &Pipe,
 ) -> Result<bool, AllocError> {
+    let host = server.host;
     wait_for_write(host, pipe);
-    let mut right = taken(host, shared, writer, &mut inbox) == Some(1);
+    let mut right = taken(server, &mut writer) == Some(1);
     for (record, number) in RECORDS.iter().zip(1..) {
-        right &= commit(host, alloc, shared, writer, record, number)?;
-        right &= taken(host, shared, writer, &mut inbox) == Some(1);
+        right &= commit(server, &writer.seat, record, number)?;
+        right &= taken(server, &mut writer) == Some(1);
     }
     pipe.open.store(true, Ordering::SeqCst);
     wait_for(host, pipe, FRAMES.len());
-    shared.leave(host, reader);
+    server.shared.leave(host, reader, &mut server.shared.seen());
     Ok(right && pipe.written.lock(host).as_slice() == FRAMES)
 }
 
 fn run<H: Host + Threads + Send + Sync>(
     host: H,
     alloc: Global,
-    opened: Opened<Channel>,
+    opened: Opened,
 ) -> Result<bool, Fail>
-    requires { opened ≡ H.book }
+    requires { opened ≡ H.books }
 {
-    let shared = Shared::new(Book::new(host, alloc, opened, LIMITS)?, 2);
-    let (writer, others) = shared.join(&host).map_err(|_| "join")?;
-    let (reader, inbox) = shared.join(&host).map_err(|_| "join")?;
+    let shared = Shared::new(Book::new(host, alloc, opened, LIMITS)?, Room::of(2));
+    let writer = join(&host, &shared)?;
+    let reader = join(&host, &shared)?;
     let create = Schema::Create(atom(alloc, "t")?, Terms::from_vec(Vec::new(alloc)));
-    shared.call(&host, &writer, Command::Schema(create))?;
-    for seat in [&writer, &reader] {
+    shared.call(
+        &host,
+        &writer.seat,
+        Command::Schema(create),
+        &mut shared.seen(),
+    )?;
+    for seat in [&writer.seat, &reader.seat] {
         let watch = Command::Subscribe(atom(alloc, "t")?, Level::Simple, false);
-        shared.call(&host, seat, watch)?;
+        shared.call(&host, seat, watch, &mut shared.seen())?;
     }
     let pipe = Pipe {
         written: Mutex::new(Vec::new(alloc)),
         reached: AtomicBool::new(false),
         open: AtomicBool::new(false),
     };
-    Ok(side_by_side(&host, alloc, &shared, &writer, others, reader, inbox, &pipe)?)
+    let server = Server {
+        host: &host,
+        alloc,
+        shared: &shared,
+        settings: Settings::PLAIN,
+        gate: &Open,
+    };
+    Ok(side_by_side(&server, writer, reader, &pipe)?)
 }
 
 /// The reader's events, over the pipe.
-fn send_events<H: Host>(
-    host: &H,
-    alloc: Global,
-    shared: &Shared<H>,
-    reader: Seat,
-    mut inbox: Inbox<H>,
-    pipe: &Pipe,
-) {
-    let sink = FrameSink::new(Held { host, pipe });
-    event_loop(
-        host,
-        alloc,
-        shared,
-        &reader,
-        &mut inbox,
-        &sink,
-        Delivery::Events,
-        &Open,
-    );
+fn send_events<H: Host>(server: &Server<'_, H, Open>, mut reader: Client<H>, pipe: &Pipe) {
+    let sink = FrameSink::new(Held {
+        host: server.host,
+        pipe,
+    });
+    event_loop(server, &reader.seat, &mut reader.inbox, &sink);
 }
 
 fn side_by_side<H: Host + Threads + Send + Sync>(
-    host: &H,
-    alloc: Global,
-    shared: &Shared<H>,
-    writer: &Seat,
-    others: Inbox<H>,
-    reader: Seat,
-    inbox: Inbox<H>,
+    server: &Server<'_, H, Open>,
+    writer: Client<H>,
+    reader: Client<H>,
     pipe: &Pipe,
 ) -> Result<bool, AllocError> {
-    thread::scope(thread::scope_env(), host, |scope| {
-        let sending = scope.spawn(move || send_events(host, alloc, shared, reader, inbox, pipe));
+    let leaving = reader.seat;
+    thread::scope(thread::scope_env(), server.host, |scope| {
+        let sending = scope.spawn(move || send_events(server, reader, pipe));
         if sending.is_err() {
             return Ok(false);
         }
-        commit_all(host, alloc, shared, writer, others, &reader, pipe)
+        commit_all(server, writer, &leaving, pipe)
     })
 }
 
 fn run_named<J: Naming + Send + Sync, R: Threads + Wait + Copy + Send + Sync>(
     rt: R,
     alloc: Global,
-    opened: Opened<Channel>,
+    opened: Opened,
 ) -> Result<bool, Fail>
-    requires { opened ≡ J.book }
+    requires { opened ≡ J.books }
 {
     run((rt, PhantomData::<J>), alloc, opened)
 }

@@ -4,7 +4,6 @@ use crate::Ended;
 use crate::ending::End;
 use crate::serving::{Listening, serve_timed};
 use crate::slow::Slow;
-use std::alloc::Global;
 use std::net::{Shutdown, TcpStream};
 use std::thread;
 use std::thread::Threads;
@@ -13,7 +12,7 @@ use tab_book::Shared;
 use tab_etf::Target;
 use tab_metrics::{Closing, Paged, Roster};
 use tab_post::Host;
-use tab_server::{Gate, Notes};
+use tab_server::{Gate, Notes, Server};
 use tab_words::Service;
 
 /// The most seconds that an open transaction goes on after the end of standard input, without `--idle`.
@@ -52,14 +51,11 @@ enum Stage {
 
 /// Serves clients until standard input has ended, and then until all sessions have ended.
 pub fn serve_until_end<H, W, G>(
-    host: &H,
-    alloc: Global,
+    server: &Server<'_, H, G>,
     listening: &Listening<'_>,
     door: &TcpStream,
-    shared: &Shared<H>,
     service: Service,
     output: &mut W,
-    gate: &G,
 ) -> End
 where
     H: Host + Threads + Send + Sync,
@@ -67,12 +63,12 @@ where
     G: Gate + Notes + Drained + Slow + Sync,
 {
     let closing = &Closing::new();
-    thread::scope(thread::scope_env(), host, |scope| {
-        let started = scope.spawn(move || drain(host, door, shared, gate, closing));
+    thread::scope(thread::scope_env(), server.host, |scope| {
+        let started = scope.spawn(move || drain(server, door, closing));
         if started.is_err() {
             return End::Stopped(Ended::NoMemory);
         }
-        let end = serve_timed(host, alloc, listening, shared, service, output, gate);
+        let end = serve_timed(server, listening, service, output);
         closing.close();
         end
     })
@@ -80,13 +76,9 @@ where
 
 /// Waits for the end of standard input. Then it ends the accepting and the connections: without an open transaction at once,
 /// and with one after `--idle` or `PATIENCE` seconds at the latest.
-fn drain<H: Host, G: Drained>(
-    host: &H,
-    door: &TcpStream,
-    shared: &Shared<H>,
-    gate: &G,
-    closing: &Closing,
-) {
+fn drain<H: Host, G: Drained>(server: &Server<'_, H, G>, door: &TcpStream, closing: &Closing) {
+    let host = server.host;
+    let gate = server.gate;
     if !waits_to_serve(host, gate, closing) {
         return;
     }
@@ -102,7 +94,7 @@ fn drain<H: Host, G: Drained>(
             return;
         }
         let stage = stage_at(age(gate, begun), patience);
-        end_connections(host, shared, gate, &sessions, stage);
+        end_connections(server, &sessions, stage);
         closing.pause(host);
     }
 }
@@ -140,21 +132,20 @@ fn age<P: Paged>(paged: &P, begun: Duration) -> u64 {
 }
 
 fn end_connections<H: Host, G: Drained>(
-    host: &H,
-    shared: &Shared<H>,
-    gate: &G,
+    server: &Server<'_, H, G>,
     sessions: &[(u32, bool)],
     stage: Stage,
 ) {
-    let writers = some_may_write(host, shared, sessions);
+    let host = server.host;
+    let writers = some_may_write(host, server.shared, sessions);
     for (session, subscribes) in sessions {
         let how = match stage {
             Stage::Settled if *subscribes && writers => continue,
-            Stage::Settled if shared.hold(host).levels(*session) > 0 => continue,
+            Stage::Settled if server.shared.hold(host).levels(*session) > 0 => continue,
             Stage::Settled | Stage::All => Shutdown::Read,
             Stage::Writes => Shutdown::Both,
         };
-        gate.roster().shut(host, *session, how);
+        server.gate.roster().shut(host, *session, how);
     }
 }
 

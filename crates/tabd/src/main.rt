@@ -12,13 +12,13 @@ mod slow;
 mod socket_file;
 
 use lines::{Lines, Told};
-use running::run;
+use running::{Program, run};
 use std::marker::Brand;
 use std::process::ExitCode;
 use std::time::Clock;
+use tab_book::Opened;
 use tab_etf::Counted;
 use tab_metrics::{About, Meters};
-use tab_post::Opened;
 use tab_session::{Ended, replay};
 use tab_words::{Log, Run, Service, VERSION, asked};
 
@@ -44,16 +44,12 @@ fn main(rt: HostRuntime) -> ExitCode {
         Counted::new(rt.stderr()),
         Counted::new(rt.stdin()),
     );
-    let opened = Opened::new();
-    let status = run::<Brand, _, _, _, _, _>(
-        &rt,
-        opened,
-        wanted,
-        &mut input,
-        &mut output,
-        &mut errors,
-        &lines,
-    );
+    let program = Program {
+        rt: &rt,
+        opened: Opened::new(),
+        gate: &lines,
+    };
+    let status = run::<Brand, _, _, _, _, _>(program, wanted, &mut input, &mut output, &mut errors);
     lines.put_reason();
     status
 }

@@ -1,22 +1,22 @@
 //! The book that a server serves.
 
 ghost use Rattle.std.specs.Prelude.{◌≡◌, ◌≤◌, IfOk};
-ghost use Rattle.tabd.specs.Served.{book_of, limits_of, sessions_of};
+ghost use Rattle.tabd.specs.Served.{book_of, limits_of, room_of, sessions_of};
 
 use std::alloc::{AllocError, Global};
-use tab_book::{Book, Shared};
+use tab_book::{Book, Opened, Shared};
 use tab_model::Limits;
-use tab_post::{Channel, Host, Opened};
+use tab_post::{Host, Room};
 use tab_words::Service;
 
 /// No tables and no sessions, and the limits that the words and the program set.
 pub fn opened_book<H: Host>(
     host: H,
     alloc: Global,
-    opened: Opened<Channel>,
+    opened: Opened,
     service: &Service,
 ) -> Result<Book<H>, AllocError>
-    requires { opened ≡ H.book }
+    requires { opened ≡ H.books }
     ensures { IfOk result (λ b. b ≡ book_of service.now) }
 {
     Book::new(host, alloc, opened, limits(service))
@@ -24,9 +24,13 @@ pub fn opened_book<H: Host>(
 
 /// The book under its lock, and mailboxes of the size that the words set.
 pub fn shared_book<H: Host>(book: Book<H>, service: &Service) -> Shared<H>
-    ensures { result.outbox ≡ service.now.sizes.outbox }
+    ensures { result.room ≡ room_of service.now }
 {
-    Shared::new(book, service.sizes.outbox as usize)
+    let room = Room {
+        items: service.sizes.outbox as usize,
+        bytes: service.sizes.outbox_bytes,
+    };
+    Shared::new(book, room)
 }
 
 fn limits(service: &Service) -> Limits

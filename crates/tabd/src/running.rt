@@ -8,7 +8,7 @@ ghost use Rattle.tabd.specs.Endings.{OfRun, IsShown, IsTextFault, OnStreams, Pla
 
 use crate::draining::Drained;
 use crate::ending::{End, end_of_replay, end_of_words, line_of, status_of};
-use crate::serving::listen;
+use crate::serving::{Start, listen};
 use crate::slow::Slow;
 use crate::{Ended, replay};
 use clap::Error;
@@ -18,22 +18,29 @@ use std::process::ExitCode;
 use std::rt::Files;
 use std::sync::Wait;
 use std::thread::Threads;
+use tab_book::Opened;
 use tab_etf::{Source, Target, give_all};
-use tab_post::{Channel, Naming, Opened};
+use tab_post::Naming;
 use tab_server::{Gate, Notes};
 use tab_words::Run;
+
+/// The runtime of a run, the registers of a server's book, and the receiver of its reports.
+#[derive(Drop)]
+pub struct Program<'a, H, G> {
+    pub rt: &'a H,
+    pub opened: Opened,
+    pub gate: &'a G,
+}
 
 /// Runs the words, and returns the program's exit status. The errors have only the line of this end, or for wrong words
 /// only the parser's text. The text of a help or version is put on the output. The gate has the reports of a server
 /// while it runs.
 pub fn run<J, H, R, W, E, G>(
-    rt: &H,
-    opened: Opened<Channel>,
+    program: Program<'_, H, G>,
     asked: Result<Run, Error>,
     input: &mut R,
     output: &mut W,
     errors: &mut E,
-    gate: &G,
 ) -> ExitCode
 where
     J: Naming + Send + Sync,
@@ -49,7 +56,7 @@ where
     W: Target,
     E: Target,
     G: Gate + Notes + Drained + Slow + Sync,
-    requires { opened ≡ J.book }
+    requires { program.opened ≡ J.books }
     ensures replayed { IfOk asked (λ words. (end : EndOf) × (exit_status result ≡ status_of end)
         × OfRun words
         (λ outbox. Plays outbox
@@ -69,11 +76,11 @@ where
 {
     match asked {
         Ok(words) => {
-            let end = perform::<J, H, R, W, G>(rt, opened, words, input, output, gate);
+            let end = perform::<J, H, R, W, G>(program, words, input, output);
             ExitCode::from(tell(errors, &end))
         }
         Err(error) => {
-            let end = show(rt.alloc(), &error, output, errors);
+            let end = show(program.rt.alloc(), &error, output, errors);
             ExitCode::from(tell(errors, &end))
         }
     }
@@ -81,12 +88,10 @@ where
 
 /// Does what the words ask for.
 fn perform<J, H, R, W, G>(
-    rt: &H,
-    opened: Opened<Channel>,
+    program: Program<'_, H, G>,
     words: Run,
     input: &mut R,
     output: &mut W,
-    gate: &G,
 ) -> End
 where
     J: Naming + Send + Sync,
@@ -101,7 +106,7 @@ where
     R: Source,
     W: Target,
     G: Gate + Notes + Drained + Slow + Sync,
-    requires { opened ≡ J.book }
+    requires { program.opened ≡ J.books }
     ensures { OfRun words
         (λ outbox. Plays outbox
         (streams (R.remaining input.old) (W.contents output.old) (R.faults input.old)
@@ -109,10 +114,17 @@ where
         (streams (R.remaining input.new) (W.contents output.new) (R.faults input.new)
         (W.faults output.new)) result) (input.new ≡ input.old) }
 {
+    let Program { rt, opened, gate } = program;
     match words {
         Run::Replay { outbox } => play(rt.alloc(), input, output, outbox),
         Run::Serve(address, service) => {
-            listen::<J, H, W, G>(*rt, rt.alloc(), opened, &address, service, output, gate)
+            let start = Start {
+                rt: *rt,
+                alloc: rt.alloc(),
+                service,
+                gate,
+            };
+            listen::<J, H, W, G>(&start, opened, &address, output)
         }
     }
 }

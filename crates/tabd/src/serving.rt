@@ -15,11 +15,11 @@ use std::rt::Files;
 use std::sync::Wait;
 use std::thread::Threads;
 use std::{io, thread};
-use tab_book::Shared;
+use tab_book::{Opened, Shared};
 use tab_etf::{Broken, Target, give_all};
 use tab_metrics::{Closing, serve_pages};
-use tab_post::{Channel, Host, Naming, Opened};
-use tab_server::{Gate, Listener, Notes, Settings, serve, serve_forever};
+use tab_post::{Host, Naming};
+use tab_server::{Gate, Listener, Notes, Server, Settings};
 use tab_words::{Address, Service};
 
 /// The settings of connections, from the words.
@@ -48,16 +48,22 @@ pub struct Listening<'a> {
     lines: String,
 }
 
+/// What a server is started with: the runtime, the words, and the receiver of its reports.
+#[derive(Drop)]
+pub struct Start<'a, R, G> {
+    pub rt: R,
+    pub alloc: Global,
+    pub service: Service,
+    pub gate: &'a G,
+}
+
 /// Listens at the address, serves, and says so once nothing else can keep it from that: until all sessions have ended, or for
 /// good. A socket file is removed at the end.
 pub fn listen<J, R, W, G>(
-    rt: R,
-    alloc: Global,
-    opened: Opened<Channel>,
+    start: &Start<'_, R, G>,
+    opened: Opened,
     address: &Address,
-    service: Service,
     output: &mut W,
-    gate: &G,
 ) -> End
 where
     J: Naming + Send + Sync,
@@ -70,42 +76,42 @@ where
         + Sync,
     W: Target,
     G: Gate + Notes + Drained + Slow + Sync,
-    requires { opened ≡ J.book }
+    requires { opened ≡ J.books }
 {
-    match listen_at(&rt, address) {
+    match listen_at(&start.rt, address) {
         Ok((clients, place)) => {
-            let end = serve_at::<J, R, W, G>(
-                rt, alloc, opened, &clients, &place, service, output, gate,
-            );
-            place.close(&rt);
+            let end = serve_at::<J, R, W, G>(start, opened, &clients, &place, output);
+            place.close(&start.rt);
             end
         }
-        Err(error) => End::Stopped(refused(&error, gate)),
+        Err(error) => End::Stopped(refused(&error, start.gate)),
     }
 }
 
 /// Listens for clients of the counters too, and serves.
 fn serve_at<J, R, W, G>(
-    rt: R,
-    alloc: Global,
-    opened: Opened<Channel>,
+    start: &Start<'_, R, G>,
+    opened: Opened,
     clients: &Listener,
     place: &Place<'_>,
-    service: Service,
     output: &mut W,
-    gate: &G,
 ) -> End
 where
     J: Naming + Send + Sync,
     R: Net<Listener = TcpListener, Stream = TcpStream> + Threads + Wait + Copy + Send + Sync,
     W: Target,
     G: Gate + Notes + Drained + Slow + Sync,
-    requires { opened ≡ J.book }
+    requires { opened ≡ J.books }
 {
-    match listen_for_pages(&rt, alloc, clients, place, service, gate) {
+    match listen_for_pages(start, clients, place) {
         Ok(listening) => {
-            let host = (rt, PhantomData::<J>);
-            serve_on(host, alloc, opened, &listening, service, output, gate)
+            let named = Start {
+                rt: (start.rt, PhantomData::<J>),
+                alloc: start.alloc,
+                service: start.service,
+                gate: start.gate,
+            };
+            serve_on(&named, opened, &listening, output)
         }
         Err(ended) => End::Stopped(ended),
     }
@@ -113,26 +119,26 @@ where
 
 /// Opens the listener for clients of the pages and the door, if the options ask for them, and makes the lines.
 fn listen_for_pages<'a, R, N>(
-    rt: &R,
-    alloc: Global,
+    start: &Start<'_, R, N>,
     clients: &'a Listener,
     place: &Place<'_>,
-    service: Service,
-    notes: &N,
 ) -> Result<Listening<'a>, Ended>
 where
     R: Net<Listener = TcpListener, Stream = TcpStream>,
     N: Notes,
 {
-    let mut lines = line_of(alloc, place).map_err(|_| Ended::NoMemory)?;
-    let door = if service.drains {
+    let notes = start.gate;
+    let mut lines = line_of(start.alloc, place).map_err(|_| Ended::NoMemory)?;
+    let door = if start.service.drains {
         Some(clients.door().map_err(|error| refused(&error, notes))?)
     } else {
         None
     };
-    let pages = match service.metrics {
+    let pages = match start.service.metrics {
         Some(wanted) => {
-            let (pages, port) = listen_on(rt, wanted).map_err(|error| refused(&error, notes))?;
+            let (pages, port) = listen_on(&start.rt, wanted).map_err(|error| refused(
+                &error, notes,
+            ))?;
             write!(lines, "metrics on 127.0.0.1:{port}\n").map_err(|_| Ended::NoMemory)?;
             Some(pages)
         }
@@ -161,41 +167,41 @@ fn refused<N: Notes>(error: &io::Error, notes: &N) -> Ended {
 
 /// Serves clients, and those of the counters in a thread of its own.
 fn serve_on<H, W, G>(
-    host: H,
-    alloc: Global,
-    opened: Opened<Channel>,
+    start: &Start<'_, H, G>,
+    opened: Opened,
     listening: &Listening<'_>,
-    service: Service,
     output: &mut W,
-    gate: &G,
 ) -> End
 where
     H: Host + Threads + Send + Sync,
     W: Target,
     G: Gate + Notes + Drained + Slow + Sync,
-    requires { opened ≡ H.book }
+    requires { opened ≡ H.books }
 {
-    let Ok(book) = opened_book(host, alloc, opened, &service) else {
+    let service = start.service;
+    let Ok(book) = opened_book(start.rt, start.alloc, opened, &service) else {
         return End::Stopped(Ended::NoMemory);
     };
     let shared = shared_book(book, &service);
+    let server = Server {
+        host: &start.rt,
+        alloc: start.alloc,
+        shared: &shared,
+        settings: settings(&service),
+        gate: start.gate,
+    };
     match &listening.pages {
-        Some(pages) => beside_pages(
-            &host, alloc, listening, pages, &shared, service, output, gate,
-        ),
-        None => serve_drained(&host, alloc, listening, &shared, service, output, gate),
+        Some(pages) => beside_pages(&server, listening, pages, service, output),
+        None => serve_drained(&server, listening, service, output),
     }
 }
 
 fn beside_pages<H, W, G>(
-    host: &H,
-    alloc: Global,
+    server: &Server<'_, H, G>,
     listening: &Listening<'_>,
     pages: &TcpListener,
-    shared: &Shared<H>,
     service: Service,
     output: &mut W,
-    gate: &G,
 ) -> End
 where
     H: Host + Threads + Send + Sync,
@@ -203,12 +209,12 @@ where
     G: Gate + Notes + Drained + Slow + Sync,
 {
     let closing = &Closing::new();
-    thread::scope(thread::scope_env(), host, |scope| {
-        let started = scope.spawn(move || serve_pages(host, alloc, pages, shared, gate, closing));
+    thread::scope(thread::scope_env(), server.host, |scope| {
+        let started = scope.spawn(move || serve_pages(server, pages, closing));
         if started.is_err() {
             return End::Stopped(Ended::NoMemory);
         }
-        let end = serve_drained(host, alloc, listening, shared, service, output, gate);
+        let end = serve_drained(server, listening, service, output);
         closing.close();
         end
     })
@@ -216,13 +222,10 @@ where
 
 /// Serves clients; with `--drain` until standard input ends.
 fn serve_drained<H, W, G>(
-    host: &H,
-    alloc: Global,
+    server: &Server<'_, H, G>,
     listening: &Listening<'_>,
-    shared: &Shared<H>,
     service: Service,
     output: &mut W,
-    gate: &G,
 ) -> End
 where
     H: Host + Threads + Send + Sync,
@@ -230,20 +233,17 @@ where
     G: Gate + Notes + Drained + Slow + Sync,
 {
     match &listening.door {
-        Some(door) => serve_until_end(host, alloc, listening, door, shared, service, output, gate),
-        None => serve_timed(host, alloc, listening, shared, service, output, gate),
+        Some(door) => serve_until_end(server, listening, door, service, output),
+        None => serve_timed(server, listening, service, output),
     }
 }
 
 /// Serves clients, and looks for transactions that are open for long if some of the words ask for it.
 pub fn serve_timed<H, W, G>(
-    host: &H,
-    alloc: Global,
+    server: &Server<'_, H, G>,
     listening: &Listening<'_>,
-    shared: &Shared<H>,
     service: Service,
     output: &mut W,
-    gate: &G,
 ) -> End
 where
     H: Host + Threads + Send + Sync,
@@ -251,20 +251,17 @@ where
     G: Gate + Notes + Drained + Slow + Sync,
 {
     if service.slow.is_some() || service.limit.is_some() {
-        return serve_watched(host, alloc, listening, shared, service, output, gate);
+        return serve_watched(server, listening, service, output);
     }
-    serve_said(host, alloc, listening, shared, service, output, gate)
+    serve_said(server, listening, service, output)
 }
 
 /// Prints the lines, and serves clients. All other threads of the server run before, but for the dispatcher.
 pub fn serve_said<H, W, G>(
-    host: &H,
-    alloc: Global,
+    server: &Server<'_, H, G>,
     listening: &Listening<'_>,
-    shared: &Shared<H>,
     service: Service,
     output: &mut W,
-    gate: &G,
 ) -> End
 where
     H: Host + Threads + Send + Sync,
@@ -273,10 +270,10 @@ where
 {
     if say(output, &listening.lines).is_err() {
         let error = io::Error::other("standard output can't be written");
-        return End::Stopped(refused(&error, gate));
+        return End::Stopped(refused(&error, server.gate));
     }
-    gate.begin_serving();
-    serve_clients(host, alloc, listening.clients, shared, service, gate)
+    server.gate.begin_serving();
+    serve_clients(server, listening.clients, service)
 }
 
 /// At once, so that clients can connect.
@@ -287,21 +284,16 @@ fn say<W: Target>(output: &mut W, lines: &str) -> Result<(), Broken> {
 
 /// Serves clients until all sessions have ended, or for good.
 fn serve_clients<H: Host + Threads + Send + Sync, G: Gate + Notes + Sync>(
-    host: &H,
-    alloc: Global,
+    server: &Server<'_, H, G>,
     clients: &Listener,
-    shared: &Shared<H>,
     service: Service,
-    gate: &G,
 ) -> End {
-    let settings = settings(&service);
     if service.forever {
-        serve_forever(host, alloc, clients, shared, settings, gate);
+        server.serve_forever(clients);
         return End::Done;
     }
-    let connections = service.sizes.connections;
-    match serve(host, alloc, clients, shared, connections, settings, gate) {
+    match server.serve(clients, service.sizes.connections) {
         Ok(()) => End::Done,
-        Err(error) => End::Stopped(refused(&error, gate)),
+        Err(error) => End::Stopped(refused(&error, server.gate)),
     }
 }

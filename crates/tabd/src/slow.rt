@@ -4,14 +4,13 @@ use crate::Ended;
 use crate::draining::Drained;
 use crate::ending::End;
 use crate::serving::{Listening, serve_said};
-use std::alloc::Global;
 use std::thread;
 use std::thread::Threads;
-use tab_book::{Activity, Shared};
+use tab_book::Activity;
 use tab_etf::Target;
 use tab_metrics::Closing;
 use tab_post::Host;
-use tab_server::{Gate, Notes};
+use tab_server::{Gate, Notes, Server};
 use tab_words::Service;
 
 /// Reports each transaction that is open for long, once, and ends the sessions of those that are open for too long.
@@ -28,13 +27,10 @@ pub trait Slow {
 
 /// Serves clients, and looks for such transactions in a thread of its own.
 pub fn serve_watched<H, W, G>(
-    host: &H,
-    alloc: Global,
+    server: &Server<'_, H, G>,
     listening: &Listening<'_>,
-    shared: &Shared<H>,
     service: Service,
     output: &mut W,
-    gate: &G,
 ) -> End
 where
     H: Host + Threads + Send + Sync,
@@ -42,37 +38,37 @@ where
     G: Gate + Notes + Drained + Slow + Sync,
 {
     let closing = &Closing::new();
-    thread::scope(thread::scope_env(), host, |scope| {
-        let started = scope.spawn(move || watch(host, shared, gate, closing));
+    thread::scope(thread::scope_env(), server.host, |scope| {
+        let started = scope.spawn(move || watch(server, closing));
         if started.is_err() {
             return End::Stopped(Ended::NoMemory);
         }
-        let end = serve_said(host, alloc, listening, shared, service, output, gate);
+        let end = serve_said(server, listening, service, output);
         closing.close();
         end
     })
 }
 
 /// Looks for such transactions until the server has ended. It locks the book only if it reports one.
-fn watch<H: Host, G: Slow>(host: &H, shared: &Shared<H>, gate: &G, closing: &Closing) {
-    for _ in host.forever() {
+fn watch<H: Host, G: Slow>(server: &Server<'_, H, G>, closing: &Closing) {
+    for _ in server.host.forever() {
         if closing.is_over() {
             return;
         }
-        if gate.any_is_late() {
-            report(host, shared, gate);
+        if server.gate.any_is_late() {
+            report(server);
         }
-        gate.end_late();
-        closing.pause(host);
+        server.gate.end_late();
+        closing.pause(server.host);
     }
 }
 
 /// Reports such transactions. If memory is refused for the activities of the sessions, the next look reports them.
-fn report<H: Host, G: Slow>(host: &H, shared: &Shared<H>, gate: &G) {
-    let Ok(activities) = shared.hold(host).activities() else {
+fn report<H: Host, G: Slow>(server: &Server<'_, H, G>) {
+    let Ok(activities) = server.shared.hold(server.host).activities() else {
         return;
     };
     for activity in &activities {
-        gate.report_late(activity);
+        server.gate.report_late(activity);
     }
 }

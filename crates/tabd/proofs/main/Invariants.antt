@@ -1,5 +1,5 @@
 use Rattle.tabd.proofs.main.Given as goal
 
--- the register that was just opened
+-- the registers that were just opened
 abbrev pub ghosts-run : goal.ghosts-run
-ghosts-run g a = record { book = a.opened }
+ghosts-run g a = record { books = a.program.opened }

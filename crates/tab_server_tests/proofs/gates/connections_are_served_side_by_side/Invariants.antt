@@ -1,5 +1,5 @@
 use Rattle.tab_server_tests.proofs.gates.connections_are_served_side_by_side.Given as goal
 
--- the register that was just opened
+-- the registers that were just opened
 abbrev pub ghosts-run_named : goal.ghosts-run_named
-ghosts-run_named g a = record { book = a.opened }
+ghosts-run_named g a = record { books = a.opened }

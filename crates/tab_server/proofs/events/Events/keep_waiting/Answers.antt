@@ -1,15 +1,15 @@
-use Rattle.std.proofs.Common.{◌∙◌, refl, ap, subst, arith, ℕ, List}
+use Rattle.std.proofs.Common.{◌∙◌, refl, ap, subst, ℕ, List}
 use Rattle.tab_model.specs.declared.data.Item.{Item}
 use Rattle.tab_post.specs.Ends.{mailbox_of, received}
 use Rattle.tab_proto.specs.declared.events.Delivery.{Delivery}
 use Rattle.tab_proto.specs.Events.{sent_frames}
 use Rattle.tab_server.specs.Sending.{Goes}
-use Rattle.tab_server.proofs.Forwarding.{one_more, passes_none, passes_item, passes_then}
+use Rattle.tab_server.proofs.Forwarding.{after_none, after_one, passes_none, passes_item, passes_then}
 use Rattle.tab_server.proofs.events.Events.keep_waiting.Goals as goal
 
 pub loop-init : goal.loop-init
 loop-init g c =
-    let now = c.args.self.now in (tt, tt, refl, refl, refl, refl, λ _. omega arith, (refl, refl), passes_none g.O.Outlet.sent g.O.Outlet.broken now.seat now.delivery (mailbox_of now.inbox.now) (received now.inbox.now) now.outlet now.frames.now.items)
+    let now = c.args.self.now in (tt, tt, refl, refl, refl, refl, after_none c.args.taken (received now.inbox.now), (refl, refl), passes_none g.O.Outlet.sent g.O.Outlet.broken now.seat now.delivery (mailbox_of now.inbox.now) (received now.inbox.now) now.outlet now.frames.now.items)
 
 pub loop-preserved : goal.loop-preserved
 loop-preserved g c =
@@ -30,7 +30,7 @@ loop-preserved g c =
       c.keep.ensures.seat ∙ c.loop.invariant.3,
       c.keep.ensures.delivery ∙ c.loop.invariant.4,
       c.keep.ensures.shared ∙ c.loop.invariant.5,
-      one_more first (received old.inbox.now) (received new.inbox.now) _ _ _ taken c.loop.invariant.6 c.saturating_add-count.ensures,
+      after_one first (received old.inbox.now) (received new.inbox.now) c.in-Some-try_receive.item c.args.taken c.loop.taken c.with-taken.result taken c.loop.invariant.6 c.with-taken.ensures.items c.with-taken.ensures.bytes,
       (c.keep.ensures.slots.0 ∙ c.loop.invariant.7.0, c.keep.ensures.slots.1 ∙ c.loop.invariant.7.1),
       passes_then S B n d m first (received old.inbox.now) (received new.inbox.now) _ _ _ _ _ _ c.loop.invariant.8
           (passes_item S B n d m (received old.inbox.now) (received new.inbox.now) old.outlet new.outlet old.frames.now.items new.frames.now.items c.in-Some-try_receive.item taken goes),

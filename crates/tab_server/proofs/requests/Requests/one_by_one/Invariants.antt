@@ -16,4 +16,4 @@ invariant-loop g l =
     (l.initial.self.answers.frames.items ≡ [] → l.self.answers.frames.items ≡ [])
     (l.initial.incoming.skips ≡ false → l.incoming.skips ≡ true → length l.rest ≡ 0)
     ((done : List ℕ) × (l.piece ≡ done ++ l.rest) × ((at : List ℕ) → IsIn at l.initial.incoming → l.initial.incoming.skips ≡ false
-    → SendsAnswers g.O.Outlet.sent g.O.Outlet.broken l.initial.self.seat (at ++ done) l.initial.incoming l.incoming l.initial.self.answers l.self.answers))
+    → SendsAnswers g.O.Outlet.sent g.O.Outlet.broken l.initial.self.seat l.initial.self.held.seen l.self.held.seen (at ++ done) l.initial.incoming l.incoming l.initial.self.answers l.self.answers))

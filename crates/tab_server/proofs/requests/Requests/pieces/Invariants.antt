@@ -15,4 +15,4 @@ invariant-loop g l =
     (l.self.seat ≡ l.initial.self.seat)
     (l.initial.self.answers.frames.items ≡ [] → l.self.answers.frames.items ≡ [])
     (l.initial.incoming.skips ≡ false)
-    (TakesPart g.O.Outlet.sent g.O.Outlet.broken l.initial.self.seat (g.R.Read.remaining l.initial.reader) (g.R.Read.remaining l.reader) [] l.initial.incoming l.incoming l.initial.self.answers l.self.answers)
+    (TakesPart g.O.Outlet.sent g.O.Outlet.broken l.initial.self.seat l.initial.self.held.seen l.self.held.seen (g.R.Read.remaining l.initial.reader) (g.R.Read.remaining l.reader) [] l.initial.incoming l.incoming l.initial.self.answers l.self.answers)

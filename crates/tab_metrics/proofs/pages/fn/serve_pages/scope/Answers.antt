@@ -1,16 +1,16 @@
--- What a client's thread takes with it may go to another thread: the client's stream, and loans of what all share.
+-- What a client's thread takes with it may go to another thread: the client's stream, and loans of the server and of a count.
 use mathlib.Core.List.{[], ◌∷◌}
 use mir.Syntax.{named}
-use denote.Ref.{ShrRef}
+use denote.Ref.{NamedLft, ShrRef}
 use denote.Param.{copied, param}
 use denote.Param.Send.{IsSend, IsSync, sendable, shr_send, copied_send, copied_sync, param_sync}
 use denote.Param.SendFields.{declared_send, as_row_send}
-use Rattle.std.proofs.Crossing.{crosses, send as heap_send}
+use Rattle.std.proofs.Crossing.{crosses}
 use Rattle.std.specs.contracts.net.tcp.TcpStream as stream
 use Rattle.std.specs.contracts.sync.atomic.AtomicU64 as word
 use Rattle.tab_book.proofs.Closures.{closure_send}
-use Rattle.tab_book.proofs.Crossing.{Shared-sync}
-use Rattle.tab_book.specs.contracts.shared.Shared as shared
+use Rattle.tab_server.specs.contracts.server.Server as server
+use Rattle.tab_server.proofs.Crossing.{server-sync}
 use Rattle.tab_metrics.proofs.pages.fn.serve_pages.scope.Goals as goal
 
 stream-send : IsSend stream.the_row
@@ -22,8 +22,9 @@ word-sync = search crosses
 pub spawn-started-requires-send-F : goal.spawn-started-requires-send-F
 spawn-started-requires-send-F g c κs within =
     let H = copied 0 g.row.H in
-    let send = copied_send 0 g.row.H c.requires.1.1.0 in
-    let sync = copied_sync 0 g.row.H c.requires.1.1.1 in
-    let sent = closure_send (ShrRef (named 5) κs.1.1.1.1.1.0 H ∷ _ ∷ stream.the_row ∷ ShrRef (named 6) κs.1.1.1.1.1.1.0 (shared.the_row H g.H.Naming g.H.Host g.H.Wait g.H.Clone) ∷ ShrRef (named 7) κs.1.1.1.1.1.1.1.0 (param 1 g.row.P) ∷ ShrRef (named 8) κs.1.1.1.1.1.1.1.1.0 word.the_row ∷ [])
-    (shr_send _ _ _ sync, (heap_send, (stream-send, (shr_send _ _ _ (Shared-sync H g.H.Naming g.H.Host g.H.Wait g.H.Clone send), (shr_send _ _ _ (param_sync 1 g.row.P c.requires.1.1.2), (shr_send _ _ _ word-sync, tt)))))) in
+    let P = param 1 g.row.P in
+    let a : NamedLft = record { mir = named 6; lft = κs.1.1.1.1.1.1.0 } in
+    let shares = server-sync a H P g.H.Naming g.H.Host g.H.Wait g.H.Clone (copied_send 0 g.row.H (search c.requires parts 8)) (copied_sync 0 g.row.H (search c.requires parts 8)) (param_sync 1 g.row.P (search c.requires parts 8)) in
+    let sent = closure_send (ShrRef (named 5) κs.1.1.1.1.1.0 (server.the_row a H P g.H.Naming g.H.Host g.H.Wait g.H.Clone) ∷ stream.the_row ∷ ShrRef (named 7) κs.1.1.1.1.1.1.1.0 word.the_row ∷ [])
+    (shr_send _ _ _ shares, (stream-send, (shr_send _ _ _ word-sync, tt))) in
     record { owned = sent.owned; leaving = sent.leaving }
