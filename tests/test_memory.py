@@ -37,12 +37,14 @@ BAG = [("type", "bag")]
 OF_TEN, OF_ONE_KEY = table(holding.of_ten, 1, options=BAG), table(holding.bag_record, 3_000, options=BAG)
 FULL = pytest.mark.words("--journal", "16")
 FEW_BYTES, LISTS = pytest.mark.words("--journal-bytes", "1048576"), holding.empty_lists(30_000)
+FEW_EVENTS = pytest.mark.words("--journal-bytes", "1048576", "--outbox-bytes", "1048576")
 # Thirty megabytes.
 LONG, MANY = holding.long_record(100_000), 300
 # A bound in kilobytes, a table, and a client's requests. Wrong servers use more: one that copies its replies more
 # than 150,000 in each case, one that builds an item before it sends it some 30,000 in each that is on its way, one whose journal copies its rows some
 # 70,000, one whose maps reserve room for entries that don't come some 38,000 in "rows of a server", one whose journal limits
 # only entries some 225,000 in "operations in the journal", and one whose journal limits no bytes some 190,000 in "writes over a record".
+# Without `--outbox-bytes` "events that nobody reads" takes some 110,000.
 CASES = [
     pytest.param(30_000, table(holding.long_record(MEGABYTE), 1), partial(holding.long_reads, 1, 200), id="reads of a long record"),
     pytest.param(30_000, SMALL, partial(holding.whole_reads, (ALL_KEYS, KEYS), 300, False), id="all keys"),
@@ -52,6 +54,7 @@ CASES = [
     pytest.param(30_000, HALVED, partial(holding.whole_reads, (holding.BY_INDEX, EVEN), 300, False), id="index_read of half"),
     pytest.param(160_000, table(holding.small_record, 10), partial(holding.short_reads, 250), id="operations in the journal"),
     pytest.param(20_000, table(LISTS, 1), partial(holding.writes_over, LISTS, 200), id="writes over a record", marks=FEW_BYTES),
+    pytest.param(20_000, table(LISTS, 1), partial(holding.watched_writes, 8, LISTS, 100), id="events that nobody reads", marks=FEW_EVENTS),
     pytest.param(30_000, SMALL, partial(holding.answers, 300, KEYS), id="a one-shot's answers"),
     pytest.param(34_000, table(holding.small_record, 1), partial(holding.rows, holding.small_record, 100_000), id="rows of a server", marks=FULL),
     pytest.param(48_000, OF_TEN, partial(holding.rows, holding.of_ten, 100_000), id="rows of a bag", marks=FULL),

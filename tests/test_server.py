@@ -18,7 +18,7 @@ from tests.lib.checks import gets, holds, one_shot, raised, script, side_by_side
 from tests.lib.playing import play, scripted
 from tests.lib.sending import Sent, both_ways, items, reads, served
 from tests.lib.servers import Server
-from tests.lib.wire import Connection, Term, frame
+from tests.lib.wire import Connection, Term, frame, memory
 
 # A length over the longest payload's.
 TOO_LONG = (1_048_577).to_bytes(4, "big")
@@ -148,6 +148,29 @@ def test_a_slow_reader(clients: List[Connection], sent: Sent) -> None:
     assert [idle.event()] == sent(count + 1, [event(count + 1, 0, count + 1)]), "event"
 
 
+@both_ways("of events", "of batches", 3, "--outbox-bytes", "50000", small=True)
+def test_an_outbox_of_bytes(clients: List[Connection], sent: Sent) -> None:
+    """A client that reads nothing overflows at so many bytes, long before it has as many items as it may; the other gets each commit. What
+    comes after the overflow is not for the client until it watches again."""
+    idle, writer, reader = clients
+    value, count = b"v" * 100_000, 60
+    wanted = items([value] * count, sent)
+    script((writer, CREATE, ATOMIC))
+    follow(idle, reader)
+    for number, item in enumerate(wanted, 1):
+        change(writer, write(number, value))
+        holds("the one that reads", reader.event() == item)
+    idle.widen()
+    for number, item in enumerate(wanted, 1):
+        if (told := idle.event()) != item:
+            break
+    assert told == ("mnesia_overflow", number), "overflow"
+    assert number < count, "so many at most"
+    follow(idle)
+    change(writer, write(count + 1, 0))
+    assert [idle.event()] == sent(count + 1, [event(count + 1, 0, count + 1)]), "event"
+
+
 @served(2, "--outbox", "1")
 def test_an_outbox_of_one_item(clients: List[Connection]) -> None:
     """With an outbox of one item, a client overflows if commits come faster than it reads, and gets the overflow also if nothing was sent before."""
@@ -172,9 +195,13 @@ def test_an_outbox_of_one_item(clients: List[Connection]) -> None:
 
 
 OF_THREE = pytest.param(3, id="of three items", marks=served(2, "--outbox", "3"))
+# The bytes of an event that writes a number.
+EACH = memory(event(0, 0, 1))
+OF_BYTES = [(1, 1), (2, EACH + 1), (3, 3 * EACH), (4, 3 * EACH + 1), (64, 65 * EACH)]
+BY_BYTES = [pytest.param(size, id=f"of {most} bytes", marks=served(2, "--outbox-bytes", str(most))) for size, most in OF_BYTES]
 
 
-@pytest.mark.parametrize("size", [OF_THREE, pytest.param(64, id="by default", marks=served(2))])
+@pytest.mark.parametrize("size", [OF_THREE, pytest.param(64, id="by default", marks=served(2)), *BY_BYTES])
 def test_an_outbox(clients: List[Connection], size: int) -> None:
     """After a commit that is being sent an outbox has room for so many items, and the next one overflows. The commit's end is not sent before
     its beginning is read, as no socket has room for 16 MB."""

@@ -312,8 +312,8 @@ class Watcher(Log):
 class Game:
     """One round: a server, its clients, and their logs."""
 
-    def __init__(self, port: Any, seed: Any, seconds: float, gives_up: Any) -> None:
-        self.port, self.seed, self.gives_up, self.given_up = port, seed, gives_up, 0
+    def __init__(self, port: Any, seed: Any, seconds: float, gives_up: Any, most_bytes: float) -> None:
+        self.most_bytes, self.port, self.seed, self.gives_up, self.given_up = most_bytes, port, seed, gives_up, 0
         self.attempts: List[Attempt] = []
         self.shots: List[OneShot] = []
         self.watchers: List[Watcher] = []
@@ -378,7 +378,7 @@ class Game:
 
     def run(self) -> Any:
         """Plays the round, and returns all replies and events. Undecided if no recorder has the whole order."""
-        return Run(self.attempts, self.shots, self.watchers, self.play(), OUTBOX)
+        return Run(self.attempts, self.shots, self.watchers, self.play(), (OUTBOX, self.most_bytes))
 
     def told(self) -> str:
         events = sum(len(watcher.frames) for watcher in self.watchers)

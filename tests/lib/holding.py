@@ -149,6 +149,15 @@ def watcher(server: Server) -> Connection:
     return mirror
 
 
+def watched_writes(watchers: int, record: Record, count: int, server: Server, client: Connection) -> int:
+    """One-shots that each write the same record, with so many sessions that watch the table and read nothing."""
+    idle = [watcher(server) for _ in range(watchers)]
+    held = writes_over(record, count, server, client)
+    for mirror in idle:
+        mirror.close()
+    return held
+
+
 def old_records(record: Record, count: int, server: Server, client: Connection) -> int:
     """All of a table's records are deleted in a one-shot, and a session that reads nothing watches the table."""
     mirror = watcher(server)

@@ -16,6 +16,7 @@ import re
 from typing import Any, Callable, Dict, Iterator, List, Tuple
 
 from tests.lib.model import EMPTY, Alone, Table, conflict, events, lock_of, mirror, whole
+from tests.lib.wire import memory
 
 # Some values are so long that sockets fill up; none of the bag, whose keys have many records.
 LONG = bytes(4000)
@@ -115,7 +116,8 @@ class Log:
 class Run:
     """The logs of all clients, and the number and the age of the last commit, which reads all and writes to all tables."""
 
-    def __init__(self, attempts: List[Any], shots: Any, logs: Any, closing: Any, outbox: int) -> None:
+    def __init__(self, attempts: List[Any], shots: Any, logs: Any, closing: Any, outbox: Tuple[int, float]) -> None:
+        """At so many items, or at so many bytes, an outbox is full."""
         self.attempts, self.shots, self.logs, self.closing, self.outbox = attempts, shots, logs, closing, outbox
 
     def save(self, path: str) -> None:
@@ -412,8 +414,8 @@ class Follower:
         self.level: Dict[str, str] = {}
         self.copies: Dict[str, Table] = {}
         self.at = [0]
-        # Of each item when its first frame came.
-        self.items: List[float] = []
+        # Of each item when its first frame came, and its bytes.
+        self.items: List[Tuple[float, int]] = []
 
     def next(self, place: Any) -> Any:
         """The next commit with an event for it."""
@@ -453,7 +455,7 @@ class Follower:
             count = min(len(owed), len(frames)) if self.watcher.vanished else len(owed)
             if owed and frames[:count] == owed[:count]:
                 self.at = [place]
-                self.items.append(got)
+                self.items.append((got, sum(map(memory, owed))))
                 for term in owed:
                     mirror(self.copies, term[1])
                 return count
@@ -464,7 +466,7 @@ class Follower:
         first, last = self.judge.times.between(sent, answered)
         limits = [(place, self.next(place)) for place in self.at]
         at = sorted({at for place, limit in limits for at in range(max(place, first), min(limit, last + 1))})
-        self.items.append(got)
+        self.items.append((got, 0))
         if term[0] == "mnesia_table_begin" and request and request[0] == "subscribe":
             at = self.begin(term, request, at)
         elif term[0] == "mnesia_table_end" and request and request[0] == "unsubscribe":
@@ -497,10 +499,17 @@ class Follower:
     def overflow(self, number: int) -> None:
         """Its outbox was full when the commit came."""
         for place in {self.next(place) for place in self.at} - {len(self.judge.batches)}:
-            commit, held = self.judge.commits[place - 1], self.items[-self.judge.outbox :]
+            commit = self.judge.commits[place - 1]
             if commit.least <= number <= commit.most:
-                if len(held) < self.judge.outbox or held[0] < commit.who.sent:
+                if self.full_since() < commit.who.sent:
                     raise Differs(f"overflow {number}, and its outbox had room")
                 self.level, self.copies, self.at = {}, {}, [place]
                 return
         raise Differs(f"overflow {number}, and the next commit for it is another")
+
+    def full_since(self) -> float:
+        """When it received the first of its last items that together make an outbox full."""
+        count, most = self.judge.outbox
+        held = list(itertools.accumulate((size for _, size in reversed(self.items)), initial=0))
+        last = next((last for last, size in enumerate(held) if last == count or size >= most), None)
+        return self.items[-last][0] if last else -math.inf

@@ -1,12 +1,15 @@
 """Rounds of clients that meet at a server (game.py), each judged (judging.py); one that fails leaves its record."""
 
 import contextlib
+import math
 from typing import Any, Callable, List, Optional
 
 from tests.lib.game import CONNECTIONS, OUTBOX, Game
 from tests.lib.judging import Differs, Judge, Undecided, shown
 from tests.lib.servers import Server
 
+# At so many bytes an outbox is full in every third round.
+BYTES = 100_000
 # A round that shows nothing is played again, so many times in all.
 TRIES = 3
 
@@ -21,8 +24,9 @@ class Rounds:
         self.start, self.record, self.options = serve, str(folder / "record"), options
 
     def serve(self, seed: int) -> Server:
-        """Every other one has a journal that is always full."""
+        """Every other one has a journal that is always full, and every third one few bytes for an outbox."""
         words = ["--connections", CONNECTIONS, "--outbox", OUTBOX, "--journal", [16, 1024][seed % 2], "--abort-waits"]
+        words += ["--outbox-bytes", BYTES] if seed % 3 == 0 else []
         return self.start(*map(str, words), **self.options)
 
     def decided(self, seed: int, seconds: float, between: Between = None) -> List[str]:
@@ -37,7 +41,7 @@ class Rounds:
         missed something."""
         with self.serve(seed) as server:
             try:
-                game = Game(between(server.place) if between else server.place, seed, seconds, between is None)
+                game = Game(between(server.place) if between else server.place, seed, seconds, between is None, BYTES if seed % 3 == 0 else math.inf)
                 run = game.run()
             except (Differs, OSError, ValueError) as error:
                 return [f"{type(error).__name__} {error}"]

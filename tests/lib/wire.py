@@ -9,7 +9,7 @@ from typing import IO, Any, Callable, Deque, List, Tuple, Union
 from examples import frames as example
 from examples.frames import Map
 
-__all__ = ["Closed", "Connection", "Map", "PATIENCE", "Place", "Term", "frame", "frames", "frames_of", "read", "spell", "take", "term_of"]
+__all__ = ["Closed", "Connection", "Map", "PATIENCE", "Place", "Term", "frame", "frames", "frames_of", "memory", "read", "spell", "take", "term_of"]
 
 Term = Any
 # The examples have no types.
@@ -39,6 +39,15 @@ def frames_of(data: bytes) -> Tuple[List[bytes], bytes]:
 def term_of(data: bytes) -> Term:
     """The term of a frame."""
     return read(io.BytesIO(data[5:]))
+
+
+def memory(term: Term) -> int:
+    """A term's bytes in the server, as `--outbox-bytes` counts them: 32 for itself, with its text or its members."""
+    if isinstance(term, (str, bytes)):
+        return 32 + len(term.encode() if isinstance(term, str) else term)
+    if isinstance(term, Map):
+        return 32 + sum(memory(key) + memory(value) for key, value in term)
+    return 32 + (sum(map(memory, term)) if isinstance(term, (tuple, list)) else 0)
 
 
 class Closed(ConnectionError):
