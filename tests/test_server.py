@@ -195,8 +195,8 @@ def test_an_outbox_of_one_item(clients: List[Connection]) -> None:
 
 
 OF_THREE = pytest.param(3, id="of three items", marks=served(2, "--outbox", "3"))
-# The bytes of an event that writes a number.
-EACH = memory(event(0, 0, 1))
+# The bytes of the record in an event that writes a number: the rest of an event is not counted.
+EACH = memory(("t", 0, 1))
 OF_BYTES = [(1, 1), (2, EACH + 1), (3, 3 * EACH), (4, 3 * EACH + 1), (64, 65 * EACH)]
 BY_BYTES = [pytest.param(size, id=f"of {most} bytes", marks=served(2, "--outbox-bytes", str(most))) for size, most in OF_BYTES]
 

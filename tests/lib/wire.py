@@ -42,7 +42,7 @@ def term_of(data: bytes) -> Term:
 
 
 def memory(term: Term) -> int:
-    """A term's bytes in the server, as `--outbox-bytes` counts them: 32 for itself, with its text or its members."""
+    """A record's bytes in the server, as `--outbox-bytes` counts them: 32 for each term, and its text."""
     if isinstance(term, (str, bytes)):
         return 32 + len(term.encode() if isinstance(term, str) else term)
     if isinstance(term, Map):
