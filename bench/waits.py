@@ -11,6 +11,7 @@ given, only the rows that contain one of them are. The last column is the proces
 all that the row names, at most: no hold of the book's mutex is longer.
 """
 
+import contextlib
 import itertools
 import multiprocessing
 import os
@@ -61,7 +62,8 @@ def spent(server: Server) -> Dict[str, float]:
     folder = f"/proc/{server.process.pid}/task"
     found = {}
     for thread in os.listdir(folder):
-        with open(f"{folder}/{thread}/schedstat", encoding="ascii") as file:
+        # One that ends meanwhile has no file any more.
+        with contextlib.suppress(FileNotFoundError), open(f"{folder}/{thread}/schedstat", encoding="ascii") as file:
             found[thread] = int(file.read().split()[0]) / 1e6
     return found
 
@@ -147,9 +149,6 @@ def watched(server: Server, client: Connection, watching: Tuple[str, int], reque
         for mirror in mirrors:
             for _ in replies:
                 mirror.payload()
-            script((mirror, ("unsubscribe", table_at), HERE_OK))
-            mirror.event()
-            mirror.close()
 
     return work
 
