@@ -16,12 +16,12 @@ pub record IsOwn (b : Running) (n mailbox : ℕ) (s : Session) : Type 0 where
   pub there : session_at b.state.sessions n ≡ Some s
   pub own : s.outbox.mailbox ≡ Some mailbox
 
--- the book after a Take of this session that told an overflow
+-- the book after a Take of this session that replied an overflow
 abbrev pub after_overflow : Running → ℕ → ℕ → Running
 after_overflow b n c = record b { state = (outcome b.state [] n Take).state; log = b.log ++ made n Take (reply.Overflow c) ∷ [] }
 
 -- by an inbox of that mailbox, which had taken the one list and then the other. What an own inbox has taken is a beginning of
--- what was sent, and all of it where nothing is left; an overflow is then told once
+-- what was sent, and all of it if nothing is left; an overflow is then reported once
 abbrev pub Drains : Running → ℕ → ℕ → List Item → Drained → List Item → Running → Type 0
 Drains old n mailbox before (Going x) after new =
     (s : Session) × IsOwn old n mailbox s × (after ≡ before ++ x ∷ []) × StartsWith s.outbox.items after × (new ≡ old)
@@ -47,7 +47,7 @@ TakesIt before AllTaken after = after ≡ before
 TakesIt before (Overflow c) after = after ≡ before
 TakesIt before Left after = after ≡ before
 
--- an overflow that was not told yet is told
+-- an overflow that was not reported yet is reported
 abbrev pub TellsOverflow : Running → ℕ → Option ℕ → Drained → Running → Type 0
 TellsOverflow old n None r new = (r ≡ AllTaken) × (new ≡ old)
 TellsOverflow old n (Some c) r new = (r ≡ Overflow c) × (new ≡ after_overflow old n c)

@@ -1,4 +1,4 @@
--- What a step lets go of: who waits behind a lock or a queued request may go on only where it is gone (this project's own).
+-- What a step lets go of: a session that waits for a lock or a queued request may go on only if it is gone (this project's own).
 use Rattle.std.specs.Prelude.{◌≡◌, ◌⊎◌, ℕ, List, [], ◌∷◌, ◌++◌, Bool, true, false, Some}
 use Rattle.tab_model.specs.Ages.{Owned}
 use Rattle.tab_model.specs.Locks.{needs}

@@ -4,7 +4,7 @@ use Rattle.tab_model.specs.declared.data.Command.TheVariants as command
 use Rattle.tab_model.specs.declared.data.Part.{Part}
 use Rattle.tab_model.specs.declared.data.Part.TheVariants as part
 
--- the command that a part is handed in as
+-- the command of a part
 abbrev pub command_of : Part → Command
 command_of (part.Do o) = command.Do o
 command_of (part.Abort r) = command.Abort r

@@ -75,7 +75,7 @@ pub record IsSplitByOverflow (handed : List Session) (over : List ℕ) : Type 0 
 abbrev pub Allowed : State → List ℕ → ℕ → Ask → Type 0
 Allowed σ over n a = IsSplitByOverflow (put_ask σ a (session_at σ.sessions n)) over
 
--- a post is handed in with an empty row (the caller's condition)
+-- a session joins with an empty post (the caller's condition)
 abbrev pub JoinsEmpty : Ask → Type 0
 JoinsEmpty (Join b) = b.items ≡ []
 JoinsEmpty Leave = Unit {0}

@@ -22,7 +22,7 @@ pub record Transaction : Type 0 where
 
 -- a post: its items, how often it refused, and its capacity where that decides
 pub record Outbox : Type 0 where
-  -- those that are not taken yet; of a channel's, whose capacity is None, all that it was ever handed
+  -- those that are not taken yet; of a channel's, whose capacity is None, all that were ever put into it
   pub items : List Item
   pub refusals : ℕ
   pub capacity : Option ℕ

@@ -242,7 +242,7 @@ impl Operation {
 }
 
 impl Part {
-    /// The command that the part is handed in as.
+    /// The command of the part.
     pub fn into_command(self) -> Command
         ensures { result ≡ command_of self }
     {

@@ -88,7 +88,7 @@ impl Model for Replies {
     ghost view = { λ a. a.items.items };
 }
 
-/// The parts of a one-shot, behind a count of those who hold them: the command that is handed in, and who makes its attempts.
+/// The parts of a one-shot, behind a count of those who hold them: its command, and the driver of its attempts.
 #[derive(Drop)]
 pub struct Parts {
     items: Arc<Vec<Part>, Global>,

@@ -23,7 +23,7 @@ passed_below part.Close n = omega arith
 passed_below p n = omega arith
 
 module _ {W : Type 0} (shows : W → List Call → W → Type 0) where
-  -- the parts before the rest were handed in or left out
+  -- the parts before the rest were run or left out
   pub record Going (x y : W) (parts rest : List Part) (first now : List PlainTerms) (skipped : ℕ) : Type 0 where
     pub done : List Call
     pub shown : shows x done y

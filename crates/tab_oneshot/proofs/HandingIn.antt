@@ -1,4 +1,4 @@
--- A command that was handed in, and what its answer leads to.
+-- A command that was run, and what its reply leads to.
 use Rattle.std.proofs.Common.{◌≡◌, ◌≢◌, ℕ, suc, List, [], ◌∷◌, ◌++◌, length, refl, sym, ap, subst, ◌∙◌, inl, inr, true}
 use Rattle.std.specs.Prelude.{Option}
 use Rattle.tab_term.specs.Data.{PlainTerms}
@@ -53,7 +53,7 @@ pub no_wait : (s : Sort) (q : Reply) (levels : List PlainTerms) (calls : List Ca
 no_wait sort.Waits q levels calls turn n a = absurd (n refl)
 no_wait s q levels calls turn n a = a
 
--- the part that is handed in as an operation, or as an abort
+-- the part that is an operation, or an abort
 pub part_of_operation : (p : Part) (o : Operation) → command_of p ≡ command.Do o → p ≡ part.Do o
 part_of_operation (part.Do q) o e = cc
 part_of_operation (part.Abort r) o e = absurd cc

@@ -1,4 +1,4 @@
--- What is handed in for a one-shot, what its last reply can be, and how often it begins anew.
+-- The commands of a one-shot, what its last reply can be, and how often it restarts.
 use Rattle.std.proofs.Common.{◌≡◌, ℕ, zero, suc, ◌+◌, ◌≤◌, List, [], ◌∷◌, ◌++◌, length, refl, sym, ap, subst, inl, inr, arith}
 use Rattle.std.specs.Prelude.{pos, Bool, true, false, Option, Some, None}
 use Rattle.tab_term.specs.Data.{PlainTerms}
@@ -21,7 +21,7 @@ agains_join (Asked c r ∷ xs) ys = agains_join xs ys
 agains_join (Waited w ∷ xs) ys = agains_join xs ys
 agains_join (Again ∷ xs) ys = omega (arith, agains_join xs ys)
 
--- what a driver hands in
+-- the commands of a driver
 abbrev pub is_handed : Command → Bool
 is_handed command.Begin = true
 is_handed command.Commit = true
@@ -66,7 +66,7 @@ module _ (P : Reply → Type 0) where
   Over (IsOver r) = P r
   Over Restarts = Unit {0}
 
-  -- the calls begin at most so often anew and hand in a driver's commands, and where each answer in them has the property,
+  -- the calls restart at most so often and run a driver's commands, and where each answer in them has the property,
   -- this holds
   record Leads (n : ℕ) (calls : List Call) (G : Type 0) : Type 0 where
     pub count : agains calls ≤ n

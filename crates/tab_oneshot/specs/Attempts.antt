@@ -1,4 +1,4 @@
--- One attempt of a one-shot: what is handed in, part by part, and what each answer leads to (the Mnesia User's Guide,
+-- One attempt of a one-shot: its commands, part by part, and what each reply leads to (the Mnesia User's Guide,
 -- "Nested Transactions", for what an inner transaction's end leaves; the rest is this project's own).
 use Rattle.std.specs.Prelude.{◌≡◌, ℕ, zero, suc, pos, List, [], ◌∷◌, ◌++◌, length, Bool, true, false, Option, Some, None, ◌⊎◌}
 use Rattle.tab_term.specs.Data.{PlainTerm, PlainTerms, none, one_more}
@@ -31,7 +31,7 @@ sort_of reply.NoMemory = sort.Refused
 sort_of (reply.SystemLimit l) = sort.Refused
 sort_of r = sort.Other
 
--- the command is handed in, and its answer leads to what follows
+-- the command is run, and its reply leads to what follows
 abbrev pub Asks : Command → (Sort → Reply → List Call → Type 0) → List Call → Type 0
 Asks c After calls = (x : Reply) × (rest : List Call) × (calls ≡ Asked c x ∷ rest) × After (sort_of x) x rest
 
@@ -138,19 +138,19 @@ AfterCommit s r levels calls last = (calls ≡ []) × (last ≡ r)
 
 -- ---- a part
 
--- the part is handed in as its command, and this is what its answer leads to
+-- the part's command is run, and this is what its reply leads to
 abbrev pub HandsIn : Part → List PlainTerms → List Call → Turn → Type 0
 HandsIn (part.Do o) levels calls turn = Asks (command.Do o) (λ s x rest. AfterAsked s x levels rest turn) calls
 HandsIn (part.Abort r) levels calls turn = Asks (command.Abort r) (λ s x rest. AfterAbort s x levels rest turn) calls
 HandsIn part.Open levels calls turn = Asks command.Begin (λ s x rest. AfterBegin s x levels rest turn) calls
 HandsIn part.Close levels calls turn = Asks command.Commit (λ s x rest. AfterInner s x levels rest turn) calls
 
--- what takes memory before it is handed in: the copy, and the place of the answer
+-- whether a part takes memory before it is run, for the place of its reply
 abbrev pub takes_place : Part → Bool
 takes_place part.Close = false
 takes_place p = true
 
--- the part is handed in, or it is refused memory before that, and all open levels are ended
+-- the part is run, or it is refused memory before that, and all open levels are ended
 abbrev pub Serves : Part → List PlainTerms → List Call → Turn → Type 0
 Serves p levels calls turn = HandsIn p levels calls turn ⊎ (takes_place p ≡ true) × Stops reply.NoMemory levels calls turn
 

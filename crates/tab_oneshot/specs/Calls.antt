@@ -4,13 +4,13 @@ use Rattle.tab_model.specs.declared.data.Command.{Command}
 use Rattle.tab_model.specs.declared.data.Reply.{Reply}
 use Rattle.tab_model.specs.declared.data.Reply.TheVariants as reply
 
--- what a one-shot's driver does on its session: it asks, it waits, or it begins anew
+-- what a one-shot's driver does on its session: it asks, it waits, or it restarts
 pub data Call : Type 0 where
-  -- a command that was handed in, with its answer
+  -- a command, with its reply
   Asked : Command → Reply → Call
-  -- a wait for the operation handed in before, with its answer; None where the surroundings can't wait
+  -- a wait for the operation before, with its reply; None where the surroundings can't wait
   Waited : Option Reply → Call
-  -- the operations are handed in again, from the first
+  -- the operations are run again, from the first
   Again : Call
 
 -- what is refused for memory is answered NoMemory
@@ -28,7 +28,7 @@ abbrev pub IsNoWait : {E : Type 0} → Option (Result Reply E) → Type 0
 IsNoWait None = Unit {0}
 IsNoWait (Some r) = answer_in r ≢ reply.Waiting
 
--- how often the operations were handed in again
+-- how often the operations were run again
 abbrev pub agains : List Call → ℕ
 agains [] = 0
 agains (Asked c r ∷ calls) = agains calls

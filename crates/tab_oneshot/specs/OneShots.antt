@@ -45,7 +45,7 @@ abbrev pub Opens : Sort → Reply → List Part → ℕ → List Call → Reply 
 Opens sort.Opened x parts retries calls last = Runs parts retries calls last
 Opens s x parts retries calls last = (calls ≡ []) × (last ≡ x)
 
--- the one-shot was handed in whole; or a copy of it was refused memory
+-- the one-shot was run whole; or memory for it was refused
 abbrev pub IsRun : List Part → ℕ → List Call → Reply → Type 0
 IsRun parts retries calls last =
     Asks (command.OneShot parts retries) (λ s x rest. Opens s x parts retries rest last) calls ⊎ (calls ≡ []) × (last ≡ reply.NoMemory)

@@ -29,7 +29,7 @@ pub record Begun (n : ℕ) (p q : List Made) (all left : List (List ℕ)) : Type
 abbrev pub begins : (n : ℕ) (p : List Made) (all : List (List ℕ)) → Begun n p p all all
 begins n p all = record { done = []; replies = []; split = refl; each = prefix_self p }
 
--- who had seen less before
+-- of a caller that had seen fewer steps
 served_later : (n : ℕ) (o p q : List Made) (c : Command) (r : Reply) → IsPrefix o p → IsServed n p c r q → IsServed n o c r q
 served_later n o p q c r b h = record { calls = h.calls; each = calls_later n o p q h.calls b h.each; made = h.made }
 

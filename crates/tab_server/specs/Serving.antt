@@ -38,7 +38,7 @@ Serves n p calls m q = AreServedCalls n p calls q × (m ≡ n)
 pub serves_none : (n : ℕ) (p : List Made) → Serves n p [] n p
 serves_none n p = (prefix_self p, refl)
 
--- who had seen less before
+-- of a caller that had seen fewer steps
 pub call_later : (n : ℕ) (o p q : List Made) (c : Call) → IsPrefix o p → IsServedCall n p c q → IsServedCall n o c q
 call_later n o p q (Asked c r) b (inl h) = inl (reply_later o p q n (DoCommand c) r b h)
 call_later n o p q (Asked c r) b (inr (e, h)) = inr (e, prefix_trans o p q b h)

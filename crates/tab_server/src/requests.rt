@@ -65,7 +65,7 @@ pub struct Requests<'a, H: Host, O: Outlet, G: Gate> {
     pub aborted: bool,
 }
 
-// A derived Drop would be taken apart, field by field, where `serve_session` ends, and the borrow checker can't join that.
+// A derived Drop is expanded, field by field, at the end of `serve_session`: the borrow checker can't join its branches.
 impl<'a, H: Host, O: Outlet + Drop, G: Gate> Drop for Requests<'a, H, O, G> {
     fn drop(self) {
         let Requests {
