@@ -427,7 +427,11 @@ impl<W: Write> FrameSink<W> {
 impl<W: WriteNow> FrameSink<W> {
     /// Writes whole frames without blocking. Returns true if all is written. If it returns false and `frames` is empty, the sink
     /// keeps the bytes that are not written; if `frames` is not empty, none of it is written.
-    pub fn try_send(&self, frames: &mut Vec<u8>) -> Result<bool, Broken> {
+    pub fn try_send(&self, frames: &mut Vec<u8>) -> Result<bool, Broken>
+        ensures whole { OnOk result
+            ((frames.new.items ≡ frames.old.items) ⊎ (frames.new.items ≡ [])) }
+        ensures all { IfOk result (λ all. IsTrue all → frames.new.items ≡ []) }
+    {
         match self.sink.try_lock() {
             Some(mut sink) => sink.put_now(frames),
             None => Ok(false),
