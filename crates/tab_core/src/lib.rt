@@ -83,6 +83,7 @@ impl<P: Post + Drop> Core<P> {
     /// One step of a session, whole or, if memory that it takes is refused, not at all. A session joins with an empty post.
     ///
     /// The entries of all steps so far, and what each session took, give the tables again (`IsTied`), from before the step to after it.
+    #[inline(always)]
     pub fn step(&mut self, session: u32, step: Step<P>) -> Result<Stepped, AllocError>
         ensures done { IfOk result
             (λ s. StepsTo self.old session (ask_of P.outbox step) s self.new) }
