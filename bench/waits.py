@@ -37,6 +37,8 @@ RECORDS, BAGGED, WRITES, DUMPS, READS, FINDS, WATCHERS = 100_000, 6_000, 899, 32
 INDEXES, WIDE, ELEMENTS, ENTRIES = 254, 333, 1_000_000, 200_000
 # As many commands on tables as make a journal full, by two, and transactions behind them.
 PAIRS, FOLDS = 66, 20
+# The rounds of a row that uses up an attribute of its table in each.
+MOST_ROUNDS = 5
 # A read's own record, in a table of its own.
 READ = (("transaction", [("read", "other", 1)], 0), ("atomic", [[("other", 1, 1)]]))
 # Which keys are a client's own.
@@ -222,12 +224,18 @@ def index_again(client: Connection, name: str) -> None:
     script((client, ("add_table_index", name, "val"), ATOMIC), (client, ("del_table_index", name, "val"), ATOMIC))
 
 
-def own_index(server: Server, client: Connection) -> Work:
-    """Of a table of its own, so that no two wait for each other's locks."""
-    name = f"own{next(OWN)}"
-    script((client, ("create_table", name, []), ATOMIC))
-    fill(client, lambda key: (name, key, key), RECORDS, 500)
-    return lambda: index_again(client, name)
+def own_indexes(verb: str, indexed: bool) -> Prepare:
+    """An index is added to a table of its own, or deleted from it: in each round that of the next attribute."""
+
+    def prepare(server: Server, client: Connection) -> Work:
+        name, values = f"own{next(OWN)}", [f"v{at}" for at in range(MOST_ROUNDS)]
+        options: Term = [("attributes", ["key", *values]), ("index", values if indexed else [])]
+        script((client, ("create_table", name, options), ATOMIC))
+        fill(client, lambda key: (name, key, *[key] * MOST_ROUNDS), RECORDS, 500)
+        left = iter(values)
+        return lambda: script((client, (verb, name, next(left)), ATOMIC))
+
+    return prepare
 
 
 def index_folds(server: Server, client: Connection) -> Work:
@@ -276,7 +284,8 @@ def rows(count: int) -> Iterator[Tuple[str, Callable[[Connection], None], Prepar
     yield f"a one-shot of {WIDE} writes to a table of its own with {INDEXES} indexes", one, wide_writes
     yield f"a one-shot of {READS} deletions at a key of {RECORDS} records, of a bag of its own with an index", one, indexed_deletions
     yield f"a table with {ENTRIES} index entries is refused", one, refused_table
-    yield f"an index is added and taken away, of a table of {RECORDS} records", one, own_index
+    yield f"an index is added to a table of {RECORDS} records", one, own_indexes("add_table_index", False)
+    yield f"an index is deleted from a table of {RECORDS} records", one, own_indexes("del_table_index", True)
     yield (f"a one-shot of {finds} match_object that find half, {RECORDS} records", table(lambda key: mixed[key], RECORDS, 500),
            asks(("transaction", [half] * finds, 0), size_of(("atomic", [mixed[::2]] * finds))))
     yield f"a one-shot of {reads} all_keys, {RECORDS} records", small, asks(("transaction", [ALL_KEYS] * reads, 0), size_of(("atomic", [keys] * reads)))
@@ -293,6 +302,8 @@ def main() -> None:
     if len(sys.argv) not in (2, 3, 4, 5):
         sys.exit(__doc__)
     rounds, count = [int(word) for word in sys.argv[2:4]] + [3, 1][len(sys.argv[2:4]) :]
+    if rounds > MOST_ROUNDS:
+        sys.exit(f"at most {MOST_ROUNDS} rounds")
     words = sys.argv[4].split() if len(sys.argv) > 4 else [""]
     print("what | reads | median | longest | processor")
     for what, make, prepare in rows(count):
