@@ -5,6 +5,8 @@ ghost use Rattle.std.specs.Io.KnownBytes.{IsAtEnd};
 ghost use mathlib.Core.List.{IsPrefix};
 ghost use Rattle.tab_etf.specs.Frames.{contents, payload_of};
 ghost use Rattle.tab_model.specs.declared.data.Reply.{Reply as ReplyOf};
+ghost use Rattle.tab_book.specs.Replies.{Leaves};
+ghost use Rattle.tab_book.specs.declared.step.Transition.{Transition};
 ghost use Rattle.tab_server.specs.declared.incoming.Incoming.{Incoming as IncomingOf};
 ghost use Rattle.tab_server.specs.declared.requests.Ending.TheVariants.{Over};
 ghost use Rattle.tab_server.specs.Sending.{reply_frames};
@@ -137,8 +139,14 @@ pub fn serve_session<'a, H: Host, R: Read, G: Gate>(
 }
 
 impl<'a, H: Host, O: Outlet, G: Gate> Requests<'a, H, O, G> {
-    /// Serves all requests, after which no transaction is open.
-    fn all<R: Read>(&mut self, reader: &mut R) -> Ending {
+    /// Answers all requests of a stream, also if a write fails.
+    fn all<R: Read>(&mut self, reader: &mut R) -> Ending
+        ensures answered { IsFalse (O.broken self.new.answers.outlet)
+            → IsStreamAnswered O.sent O.broken self.old.seat
+            self.old.held.seen self.new.held.seen (R.remaining reader.old) (R.remaining reader.new) self.old.answers self.new.answers
+            ⊎ IsStreamStopped O.sent O.broken self.old.seat
+            self.old.held.seen self.new.held.seen (R.remaining reader.old) (R.remaining reader.new) self.old.answers self.new.answers }
+    {
         match self.stream(reader) {
             Ok(ending) => ending,
             Err(_) => Ending::Over,
@@ -146,7 +154,12 @@ impl<'a, H: Host, O: Outlet, G: Gate> Requests<'a, H, O, G> {
     }
 
     /// The session leaves, and its transaction ends.
-    fn leave(&mut self) {
+    fn leave(&mut self)
+        ensures leaves { (transaction : Transition)
+            × Leaves self.old.held.seen self.new.held.seen self.old.seat transaction }
+        ensures grows { IsPrefix self.old.held.seen self.new.held.seen }
+        ensures sends { self.new.answers ≡ self.old.answers }
+    {
         self.give_back();
         let left = self
             .shared

@@ -1,12 +1,14 @@
 //! The commands of a connection's requests, as steps of its session.
 
-ghost use Rattle.std.specs.Prelude.{◌≡◌, ◌≢◌, [], IfOk, IfSome, IsFalse, IsOk, IsTrue, MatchOption};
+ghost use Rattle.std.specs.Prelude.{◌≡◌, ◌≢◌, [], IfOk, IfSome, IsFalse, IsOk, IsTrue, MatchOption, None};
 ghost use mathlib.Core.List.{IsPrefix};
+ghost use Rattle.tab_etf.specs.Frames.{payload_of};
 ghost use Rattle.tab_model.specs.declared.ask.Ask.TheVariants.{Retry, Do as DoCommand};
 ghost use Rattle.tab_model.specs.declared.data.Reply.TheVariants as reply;
 ghost use Rattle.tab_model.specs.Outcome.{is_abort};
 ghost use Rattle.tab_oneshot.specs.OneShots.{is_one_shot as is_one_shot_command};
 ghost use Rattle.tab_book.specs.Replies.{IsAnswer, IsReply};
+ghost use Rattle.tab_server.specs.Aborting.{IsAbort};
 ghost use Rattle.tab_server.specs.Serving.{IsServed, IsSettled};
 ghost use Rattle.tab_server.specs.Rereading.{IsSpelledBy};
 ghost use Rattle.tab_server.specs.Sent.{Sends};
@@ -165,6 +167,7 @@ impl<'a, H: Host, O: Outlet, G: Gate> Requests<'a, H, O, G> {
         ensures seat { self.new.seat ≡ self.old.seat }
         ensures seen { self.new.held.seen ≡ self.old.held.seen }
         ensures answers { self.new.answers ≡ self.old.answers }
+        ensures puts { IsFalse self.new.puts.may_have }
     {
         self.held.give_back();
         if self.puts.take() {
@@ -209,7 +212,11 @@ impl<'a, H: Host, O: Outlet, G: Gate> Requests<'a, H, O, G> {
     }
 
     /// The end of a command's wait, if this frame has come after it.
-    fn end_of_wait(&self, next: Option<&Frame>) -> Behind {
+    fn end_of_wait(&self, next: Option<&Frame>) -> Behind
+        ensures abort { result ≡ Behind.Abort
+            → IsTrue self.now.aborts × IfSome next.entry (λ frame. IsAbort (payload_of frame.now)) }
+        ensures stream { result ≡ Behind.Stream → IsTrue self.now.aborts × (next.entry ≡ None) }
+    {
         match next {
             Some(frame) if self.aborts && is_abort_in(self.alloc, frame) => Behind::Abort,
             None if self.aborts && self.place.is_between() => Behind::Stream,
