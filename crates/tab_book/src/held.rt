@@ -60,10 +60,11 @@ impl<'a, H: Host> Held<'a, H> {
         };
         let answered = book.step_shown(seat.session(), step, &mut self.seen);
         self.book = Some(book);
-        let answered = answered?;
-        self.steps = self.steps.saturating_add(1);
-        self.releases |= answered.releases;
-        Ok(answered)
+        if let Ok(answered) = &answered {
+            self.steps = self.steps.saturating_add(1);
+            self.releases |= answered.releases;
+        }
+        answered
     }
 
     /// The back-off state of the session.

@@ -77,9 +77,9 @@ impl<H: Host> Book<H> {
         ensures grows { IsPrefix seen.old seen.new }
     {
         self.show(seen);
-        let answered = self.step(session, step)?;
+        let answered = self.step(session, step);
         self.show(seen);
-        Ok(answered)
+        answered
     }
 
     fn answered(&mut self, session: u32, step: Step) -> Result<Answered, AllocError>
