@@ -87,7 +87,10 @@ impl<'a, H: Host, O: Outlet, N: Notes> Events<'a, H, O, N> {
                 return Ok(());
             };
             self.keep(item.item())?;
-            self.send_waiting(Load::none().with(&item))?;
+            let taken = Load::none().with(&item);
+            // A send may block for long, and the item's records may be in no table any more.
+            drop(item);
+            self.send_waiting(taken)?;
         }
         unreachable!()
     }
@@ -111,6 +114,7 @@ impl<'a, H: Host, O: Outlet, N: Notes> Events<'a, H, O, N> {
             × (self.new.frames.ghost_name ≡ self.old.frames.ghost_name) }
     {
         self.keep_aside(&long)?;
+        drop(long);
         self.send_waiting(taken)
     }
 
