@@ -140,14 +140,14 @@ def rows() -> Iterator[Tuple[str, List[str], Make, Hold]]:
         yield f"{TRANSACTIONS} one-shots of {OPERATIONS} {what}", [], few, partial(full_journal, operation, reply)
     lists = holding.empty_lists(MEGABYTE)
     yield f"{OVER} writes over a record with a list of 1,000,000 empty lists", [], table(lists, 1), partial(holding.writes_over, lists, OVER)
-    some, more = ["--outbox-bytes", "67108864"], ["--outbox-bytes", "16777216"]
+    advised = ["--journal", "16", "--journal-bytes", "16777216", "--outbox-bytes", "16777216"]
     hold = partial(holding.watched_writes, 1, lists, UNREAD)
     yield f"{UNREAD} such writes, watched by a session that does not read", [], table(lists, 1), hold
-    yield " ".join([f"{UNREAD} such writes, watched by a session that does not read,", *some]), some, table(lists, 1), hold
+    yield " ".join([f"{UNREAD} such writes, watched by a session that does not read,", *advised]), advised, table(lists, 1), hold
     hold = partial(holding.watched_writes, WATCHERS, holding.long_record(MEGABYTE), UNREAD)
     what = f"{UNREAD} writes over a record of 1 MB, watched by {WATCHERS} that do not read"
     yield what, [], table(holding.long_record(MEGABYTE), 1), hold
-    yield " ".join([what + ",", *more]), more, table(holding.long_record(MEGABYTE), 1), hold
+    yield " ".join([what + ",", *advised]), advised, table(holding.long_record(MEGABYTE), 1), hold
     yield f"a one-shot of {ASKED} all_keys, {RECORDS} records, at its peak", [], small, partial(holding.answers, ASKED, keys)
     for size, count in ((100_000, 300), (1_000, 30_000)):
         yield f"{DUMPS} dumps of 30 MB in an outbox, {count} records", [], *of_long(size, count, holding.dumps, DUMPS)
