@@ -118,7 +118,7 @@ def of_long(size: int, count: int, hold: Callable[..., int], times: int) -> Tupl
 
 
 def rows() -> Iterator[Tuple[str, List[str], Make, Hold]]:
-    """What, the server's further words, how the table is made, and what is held with it."""
+    """What, the server's further words and settings of its environment, how the table is made, and what is held with it."""
     small, keys, records = table(small_record, RECORDS), list(range(RECORDS)), [small_record(key) for key in range(RECORDS)]
     bag = table(bag_record, BAGGED, options=[("type", "bag")])
     yield "6 transactions of 500 reads of a record of 1 MB", [], table(holding.long_record(MEGABYTE), 1), partial(holding.long_reads, 6, 500)
@@ -140,7 +140,7 @@ def rows() -> Iterator[Tuple[str, List[str], Make, Hold]]:
         yield f"{TRANSACTIONS} one-shots of {OPERATIONS} {what}", [], few, partial(full_journal, operation, reply)
     lists = holding.empty_lists(MEGABYTE)
     yield f"{OVER} writes over a record with a list of 1,000,000 empty lists", [], table(lists, 1), partial(holding.writes_over, lists, OVER)
-    advised = ["--journal", "16", "--journal-bytes", "16777216", "--outbox-bytes", "16777216"]
+    advised = ["MALLOC_TRIM_THRESHOLD_=131072", "--journal", "16", "--journal-bytes", "16777216", "--outbox-bytes", "16777216"]
     hold = partial(holding.watched_writes, 1, lists, UNREAD)
     yield f"{UNREAD} such writes, watched by a session that does not read", [], table(lists, 1), hold
     yield " ".join([f"{UNREAD} such writes, watched by a session that does not read,", *advised]), advised, table(lists, 1), hold
@@ -165,7 +165,9 @@ def main() -> None:
         sys.exit(__doc__)
     print("what | the table alone | held with it | more")
     for what, words, make, hold in rows():
-        with Held(os.path.abspath(sys.argv[1]), *words) as server:
+        settings = dict(word.split("=") for word in words if "=" in word)
+        options = [word for word in words if "=" not in word]
+        with Held(os.path.abspath(sys.argv[1]), *options, env={**os.environ, **settings}) as server:
             alone, held = holding.measured(server, make, hold)
         remark = f" ({server.remark})" if server.remark else ""
         print(f"{what}{remark} | {alone} | {held} | {held - alone}", flush=True)

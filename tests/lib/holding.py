@@ -2,7 +2,7 @@
 
 import pathlib
 from functools import partial
-from typing import Callable, List, Sequence, Tuple
+from typing import Any, Callable, List, Sequence, Tuple
 
 from tests.lib.checks import ATOMIC, HERE_OK, OK, change, committed, holds, one_shot, opened, script, soon, write
 from tests.lib.servers import Server
@@ -35,8 +35,8 @@ class Held(Server):
     # What a row of bench/memory.py has found besides.
     remark = ""
 
-    def __init__(self, program: str, *words: str) -> None:
-        super().__init__(program, "--connections", "64", "--forever", *words)
+    def __init__(self, program: str, *words: str, **options: Any) -> None:
+        super().__init__(program, "--connections", "64", "--forever", *words, **options)
 
 
 def size_of(reply: Term) -> int:
