@@ -15,9 +15,10 @@ import socket
 import sys
 from typing import Callable, Dict, Iterator, List, Union
 
+from beside import Framed, Redis, ask, command, places
+
 HERE = os.path.dirname(os.path.abspath(__file__))
 sys.path.insert(0, os.path.join(HERE, ".."))
-from bench.beside import Framed, Redis, ask, command, places  # noqa: E402
 from tests.lib.wire import frame  # noqa: E402
 
 TICKS = os.sysconf("SC_CLK_TCK")
