@@ -5,6 +5,7 @@ and are freed with their last owner. A request that needs memory is refused if t
 it. Each case has a server of its own.
 """
 
+import os
 import resource
 from functools import partial
 from typing import Callable, Iterator
@@ -12,7 +13,7 @@ from typing import Callable, Iterator
 import pytest
 
 from tests.lib import holding
-from tests.lib.checks import ATOMIC, CREATE, END, HERE_OK, OK, change, committed, holds, one_shot, opened, script, write
+from tests.lib.checks import ATOMIC, CREATE, END, HERE_OK, OK, change, committed, holds, one_shot, opened, script, soon, write
 from tests.lib.holding import ALL_KEYS, ALL_RECORDS, DUMP, INDEXED, MEGABYTE, NO_MORE, Held, table
 from tests.lib.servers import Server
 from tests.lib.wire import Connection, Term
@@ -111,6 +112,28 @@ def empty_outbox(mirror: Connection, record: Term) -> None:
     holds("old records", [term[1][3] for term in told if term[0] == "mnesia_table_event"] == [[record]])
     script((mirror, NO_MORE, HERE_OK))
     assert mirror.event() == END, "end marker"
+
+
+# Some thirty megabytes of the server, which the C library gives back at once.
+EVENT, EVENT_KB = holding.empty_lists(900_000), 28_125
+GIVE_BACK = {"MALLOC_TRIM_THRESHOLD_": "131072", "MALLOC_MMAP_THRESHOLD_": "131072"}
+
+
+def test_a_sent_event_is_dropped(tabd: str, plain: None) -> None:
+    """Two writes of a record, with a session that watches and has taken the event of the first. That of the second, which is on its way, has
+    a copy of its record, and the record before: two more than the table. A server that drops an item only after the next one is sent uses four."""
+    with Held(tabd, "--journal-bytes", "1048576", env={**os.environ, **GIVE_BACK}) as server:
+        client, mirror = server.connect(), server.connect(small=True)
+        table(EVENT, 1)(client)
+        holding.commit_nothing(client)
+        holding.watch(mirror)
+        alone = server.kilobytes()
+        for _ in range(2):
+            change(client, ("write", EVENT(0)))
+        first = mirror.payload()
+        more = soon(server.kilobytes, lambda held: held - alone < 3 * EVENT_KB) - alone
+        assert more < 3 * EVENT_KB, f"{more} kB more than the table"
+        assert len(mirror.payload()) == len(first), "the second event"
 
 
 # The memory that the server may use in addition: enough for some of the writes below, and not for all.

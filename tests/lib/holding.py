@@ -141,11 +141,16 @@ def dumps(count: int, record: Record, records: int, server: Server, client: Conn
     return held
 
 
+def watch(mirror: Connection) -> None:
+    """The session watches the table in detail."""
+    script((mirror, ("subscribe", WATCHED), HERE_OK))
+    assert mirror.event() == ("mnesia_table_begin", "t", "detailed"), "begin marker"
+
+
 def watcher(server: Server) -> Connection:
     """A session that watches the table in detail."""
     mirror: Connection = server.connect()
-    script((mirror, ("subscribe", WATCHED), HERE_OK))
-    assert mirror.event() == ("mnesia_table_begin", "t", "detailed"), "begin marker"
+    watch(mirror)
     return mirror
 
 
