@@ -1,5 +1,5 @@
 //! Devices that fail under a replay.
-use std::alloc::Global;
+use std::sync::Wait;
 use tab_etf::Counted;
 use tab_session::{Ended, replay};
 use tab_test_tools::Device;
@@ -17,7 +17,8 @@ const READS: u32 = 17;
 const WRITES: u32 = 33;
 
 /// Returns whether a run with devices that fail after so many calls writes all, or a beginning if it fails.
-fn is_right(alloc: Global, reads: u32, writes: u32) -> bool {
+fn is_right<R: AllocGlobal + Wait>(rt: &R, reads: u32, writes: u32) -> bool {
+    let alloc = rt.alloc();
     let mut reader = Counted::new(Device {
         inner: INPUT,
         size: 8,
@@ -28,7 +29,7 @@ fn is_right(alloc: Global, reads: u32, writes: u32) -> bool {
         size: 8,
         left: writes,
     });
-    let ended = replay(alloc, &mut reader, &mut writer, 64);
+    let ended = replay(rt, &mut reader, &mut writer, 64);
     let written = writer.into_inner().inner;
     if reads < READS || writes < WRITES {
         ended == Err(Ended::Device) && OUTPUT.starts_with(written.as_slice())
@@ -41,7 +42,7 @@ fn is_right(alloc: Global, reads: u32, writes: u32) -> bool {
 #[test]
 fn a_device_fails_at_each_call(rt: HostRuntime) {
     for left in 0..=WRITES {
-        assert!(rt; is_right(rt.alloc(), left, u32::MAX), "read {left}");
-        assert!(rt; is_right(rt.alloc(), u32::MAX, left), "write {left}");
+        assert!(rt; is_right(&rt, left, u32::MAX), "read {left}");
+        assert!(rt; is_right(&rt, u32::MAX, left), "write {left}");
     }
 }

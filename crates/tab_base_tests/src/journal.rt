@@ -1,5 +1,6 @@
 //! Entries that are audited, and folded into the base.
 use std::alloc::{AllocError, Global};
+use std::sync::Wait;
 use std::test::Fail;
 use tab_journal::Journal;
 use tab_lists::SharedTerms;
@@ -191,11 +192,16 @@ fn filled(alloc: Global, moves: &[Made]) -> Result<Journal, AllocError> {
 }
 
 /// Folds all entries, of which session 7 is joined, with the tables of another journal's base.
-fn fold(alloc: Global, journal: &mut Journal, other: &Journal) -> Result<(), AllocError> {
+fn fold<R: AllocGlobal + Wait>(
+    rt: &R,
+    journal: &mut Journal,
+    other: &Journal,
+) -> Result<(), AllocError> {
+    let alloc = rt.alloc();
     let tables = other.base().tables().to_catalog(alloc)?;
     for _entry in 0..3u32 {
         if !journal.is_empty() {
-            journal.fold_oldest(alloc, true, &tables)?;
+            journal.fold_oldest(rt, alloc, true, &tables)?;
         }
     }
     Ok(())
@@ -228,9 +234,13 @@ fn base_of(alloc: Global, journal: &Journal) -> Result<(u64, usize, Option<i128>
 }
 
 /// The same history, folded with the tables of another journal's base.
-fn folded(alloc: Global, moves: &[Made], other: &Journal) -> Result<Journal, AllocError> {
-    let mut journal = filled(alloc, moves)?;
-    fold(alloc, &mut journal, other)?;
+fn folded<R: AllocGlobal + Wait>(
+    rt: &R,
+    moves: &[Made],
+    other: &Journal,
+) -> Result<Journal, AllocError> {
+    let mut journal = filled(rt.alloc(), moves)?;
+    fold(rt, &mut journal, other)?;
     Ok(journal)
 }
 
@@ -254,13 +264,13 @@ fn is_audited(
 }
 
 /// Returns whether they leave the same base, folded with the tables that they leave.
-fn is_folded_again(
-    alloc: Global,
+fn is_folded_again<R: AllocGlobal + Wait>(
+    rt: &R,
     other: &Journal,
     (moves, _audit, value): &Row,
 ) -> Result<bool, AllocError> {
-    let journal = folded(alloc, moves, other)?;
-    Ok(is_base(alloc, &journal, 1, *value))
+    let journal = folded(rt, moves, other)?;
+    Ok(is_base(rt.alloc(), &journal, 1, *value))
 }
 
 fn is_forgotten(alloc: Global, mut journal: Journal, value: Option<i128>) -> bool {
@@ -268,26 +278,31 @@ fn is_forgotten(alloc: Global, mut journal: Journal, value: Option<i128>) -> boo
     is_base(alloc, &journal, 0, value)
 }
 
-fn is_folded(alloc: Global, journal: &Journal, row: &Row) -> Result<bool, AllocError> {
+fn is_folded<R: AllocGlobal + Wait>(
+    rt: &R,
+    journal: &Journal,
+    row: &Row,
+) -> Result<bool, AllocError> {
+    let alloc = rt.alloc();
     let (moves, audit, value) = row;
-    let folded = folded(alloc, moves, journal)?;
+    let folded = folded(rt, moves, journal)?;
     let is_base = is_base(alloc, &folded, 1, *value);
     let is_audited = is_audited(alloc, journal, &folded, *audit) == Ok(true);
-    let is_same = is_folded_again(alloc, &folded, row) == Ok(true);
+    let is_same = is_folded_again(rt, &folded, row) == Ok(true);
     let is_forgotten = is_forgotten(alloc, folded, *value);
     Ok(is_base && is_audited && is_same && is_forgotten)
 }
 
-fn is_right(alloc: Global, row: &Row) -> Result<bool, AllocError> {
-    let journal = filled(alloc, row.0)?;
+fn is_right<R: AllocGlobal + Wait>(rt: &R, row: &Row) -> Result<bool, AllocError> {
+    let journal = filled(rt.alloc(), row.0)?;
     let is_full = journal.full() && journal.len() == 3 && journal.entry(2).is_some();
-    Ok(is_full && is_folded(alloc, &journal, row) == Ok(true))
+    Ok(is_full && is_folded(rt, &journal, row) == Ok(true))
 }
 
 #[test]
 fn entries_are_audited_and_folded(rt: HostRuntime) {
     for (line, row) in COMMITS.iter().enumerate() {
-        assert!(rt; is_right(rt.alloc(), row) == Ok(true), "line {line}");
+        assert!(rt; is_right(&rt, row) == Ok(true), "line {line}");
     }
 }
 
@@ -419,30 +434,31 @@ fn a_full_journal_hands_back(rt: HostRuntime) -> Result<(), Fail> {
 }
 
 /// Folds until the journal is no longer full, with the tables of another journal's base.
-fn fold_until_room(
-    alloc: Global,
+fn fold_until_room<R: AllocGlobal + Wait>(
+    rt: &R,
     journal: &mut Journal,
     other: &Journal,
 ) -> Result<(), AllocError> {
+    let alloc = rt.alloc();
     let tables = other.base().tables().to_catalog(alloc)?;
     for _entry in 0..journal.len() {
         if journal.full() && !journal.is_empty() {
-            journal.fold_oldest(alloc, true, &tables)?;
+            journal.fold_oldest(rt, alloc, true, &tables)?;
         }
     }
     Ok(())
 }
 
 /// Returns whether it folds `wanted` entries, and refuses an entry before if it has to fold any.
-fn folds(
-    alloc: Global,
+fn folds<R: AllocGlobal + Wait>(
+    rt: &R,
     journal: &mut Journal,
     other: &Journal,
     wanted: usize,
 ) -> Result<bool, AllocError> {
-    let handed_back = journal.full() && hands_back(alloc, journal)?;
+    let handed_back = journal.full() && hands_back(rt.alloc(), journal)?;
     let entries = journal.len();
-    fold_until_room(alloc, journal, other)?;
+    fold_until_room(rt, journal, other)?;
     let is_right = entries.saturating_sub(journal.len()) == wanted && !journal.full();
     Ok(is_right && handed_back == (wanted > 0))
 }
@@ -455,18 +471,23 @@ fn push_all(alloc: Global, journal: &mut Journal, entries: &[Long]) -> Result<()
 }
 
 /// Returns whether a journal that has room for more entries folds `wanted` of these.
-fn long_fold(alloc: Global, entries: &[Long], wanted: usize) -> Result<bool, AllocError> {
+fn long_fold<R: AllocGlobal + Wait>(
+    rt: &R,
+    entries: &[Long],
+    wanted: usize,
+) -> Result<bool, AllocError> {
+    let alloc = rt.alloc();
     let other = Journal::with_limit(alloc, 1, 1)?;
     let mut journal = Journal::with_limit(alloc, 200, MOST_BYTES)?;
     let pushed = push_all(alloc, &mut journal, entries);
-    let folded = folds(alloc, &mut journal, &other, wanted);
+    let folded = folds(rt, &mut journal, &other, wanted);
     Ok(pushed.is_ok() && folded == Ok(true))
 }
 
 #[test]
 fn long_entries_fill_a_journal(rt: HostRuntime) {
     for (line, (entries, wanted)) in LONG.iter().enumerate() {
-        let right = long_fold(rt.alloc(), entries, *wanted);
+        let right = long_fold(&rt, entries, *wanted);
         assert!(rt; right == Ok(true), "line {line}");
     }
 }

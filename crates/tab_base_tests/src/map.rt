@@ -163,6 +163,26 @@ fn sets(rt: HostRuntime) {
     assert!(rt; sets_are_right(rt.alloc()) == Ok(true));
 }
 
+/// A set of one key, shared, and made empty, and made a set of two, which is shared too.
+fn small_sets_are_right(alloc: Global) -> Result<bool, AllocError> {
+    let mut set = Set::new();
+    set.insert(alloc, 2)?;
+    set.insert(alloc, 2)?;
+    let mut one = set.share()?;
+    let none = one.removed(alloc, &2)?;
+    one.remove(alloc, &1)?;
+    set.insert(alloc, 1)?;
+    let two = set.share()?;
+    set.remove(alloc, &2)?;
+    let apart = has(&one, &[2]) && has(&two, &[1, 2]) && has(&set, &[1]);
+    Ok(apart && has(&none, &[]) && none.is_empty() && !one.is_empty())
+}
+
+#[test]
+fn small_sets(rt: HostRuntime) {
+    assert!(rt; small_sets_are_right(rt.alloc()) == Ok(true));
+}
+
 /// Rising, falling, from both ends, and mixed.
 fn ordered(order: u32, n: u32) -> u32 {
     match order {

@@ -5,7 +5,7 @@ use denote.Param.Send.{IsSend, IsSync, plain_send, plain_sync, sendable, view_se
 use denote.Param.SendFields.{as_row_send, as_row_sync, declared_send, declared_sync, variants_send, variants_sync}
 use Rattle.std.proofs.Crossing.{Vec-send, Vec-sync, Arc-send, Arc-sync, crosses, frees, send as heap_send}
 use Rattle.std.proofs.MapsCrossing.{BTreeMap-send}
-use Rattle.tab_map.proofs.Crossing.{Entry-send, Map-send, Map-sync}
+use Rattle.tab_map.proofs.Crossing.{Entry-send, Map-send, Map-sync, Set-send, Set-sync}
 use Rattle.tab_term.proofs.atom.Atom.TheSendSync as atom_marks
 use Rattle.tab_records.proofs.Crossing.{Records-send, Records-sync}
 use Rattle.tab_lists.proofs.Crossing.{SharedTerms-send, SharedTerms-sync, Answers-send, Answers-sync, EventTerms-send, EventTerms-sync}
@@ -81,6 +81,7 @@ use Rattle.tab_book.specs.contracts.book.Book.TheInside as inside
 use Rattle.tab_book.specs.contracts.shared.Shared as shared
 use Rattle.circular_buffer.proofs.heap.HeapCircularBuffer.TheSendSync as buffer_marks
 use Rattle.tab_model.proofs.data.Limits.TheSendSync as limits_marks
+use Rattle.tab_journal.specs.contracts.journal.Folded as folded
 use Rattle.tab_journal.specs.contracts.journal.Journal as journal
 use Rattle.tab_journal.proofs.subscriptions.Subscription.TheSendSync as subscription_marks
 
@@ -160,10 +161,10 @@ further-sync : IsSync further.the_row
 further-sync = search (parts, Term-send, Term-sync) depth 30
 
 index-send : IsSend index.the_row
-index-send = declared_send index.the_type (search parts, (search (parts, Term-send, Term-sync) depth 30, (search (parts, further-send), tt)))
+index-send = declared_send index.the_type (search parts, (search (parts, Set-send, Set-sync, Term-send, Term-sync) depth 30, (search (parts, further-send), tt)))
 
 index-sync : IsSync index.the_row
-index-sync = declared_sync index.the_type (search parts, (search (parts, Term-send, Term-sync) depth 30, (search (parts, further-sync), tt)))
+index-sync = declared_sync index.the_type (search parts, (search (parts, Set-send, Set-sync, Term-send, Term-sync) depth 30, (search (parts, further-sync), tt)))
 
 table-send : IsSend table.the_row
 table-send = search (parts, rows-send, index-send, definition_marks.the_send, definition_marks.the_sync) depth 30
@@ -237,6 +238,9 @@ request-send = search (parts, operation-send) depth 20
 base-send : IsSend base.the_row
 base-send = search (parts, bare_catalog-send, subscription_marks.the_send) depth 30
 
+folded-send : IsSend folded.the_row
+folded-send = search (parts, entry-send, bare_catalog-send) depth 30
+
 journal-send : IsSend journal.the_row
 journal-send = search (parts, base-send, entry-send, buffer_marks.the_send, frees, heap_send) depth 40
 
@@ -263,7 +267,7 @@ module _ (P : RattleType) (g : Ghosts P.Denot) where
             as_row_send (subs.the_field P g) (subs-send p),
             (
               search (parts, ages-send),
-              (search (parts, request-send) depth 20, (search parts, (search parts, (search parts, (search (parts, limits_marks.the_send), tt))))),
+              (search (parts, request-send) depth 20, (search parts, (search parts, (search parts, (search (parts, limits_marks.the_send), (search (parts, catalog-send) depth 20, tt)))))),
             ),
           ),
         ),
@@ -288,7 +292,7 @@ module _ (H : RattleType) (names : naming.Ghosts H.Denot) (rooms : host.Ghosts H
           search parts,
           (
             search (parts, register_marks.the_send),
-            (search (parts, prefix_marks.the_send), (as_row_send (log.the_field H names) (log-send h), (as_row_send (core.the_field (channel_post.the_row H names) posts) (core-send (channel_post.the_row H names) posts (ChannelPost-send H names h)), (search (parts, journal-send) depth 20, tt)))),
+            (search (parts, prefix_marks.the_send), (as_row_send (log.the_field H names) (log-send h), (as_row_send (core.the_field (channel_post.the_row H names) posts) (core-send (channel_post.the_row H names) posts (ChannelPost-send H names h)), (search (parts, journal-send) depth 20, (search (parts, folded-send) depth 20, tt))))),
           ),
         ),
       ))

@@ -26,7 +26,7 @@ use Rattle.tab_model.proofs.StandingLemmas.{new_follows, step_follows, fold_foll
 use Rattle.tab_journal.specs.Journals.{JournalView, fold_oldest, forget, is_full, full_weight, weight_in, bytes_in}
 use Rattle.tab_core.specs.Steps.{takes_no_memory}
 use Rattle.tab_post.specs.Ends.{empty_outbox}
-use Rattle.tab_book.specs.Logs.{Made, made, joined, Makes, IsWholeRun}
+use Rattle.tab_book.specs.Logs.{Made, made, joined, IsWholeRun}
 use Rattle.tab_book.specs.Running.{Running, IsRunning, HavePlaces, Holds}
 use Rattle.tab_book.specs.Steps.{Step, oldest_joined, folded, with_folds, has_to_fold, AreNeeded, FoldsWhileFull, StepsTo, MayFold, with_entries, with_room, leaves, has_free_seat, with_new_session, StepsFrom, KeepsPosts, ask_of, is_never_refused}
 

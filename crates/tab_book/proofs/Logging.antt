@@ -1,15 +1,11 @@
 -- The log is a run from the begin, which each step makes longer by one.
-use Rattle.std.proofs.Common.{◌≡◌, ◌+◌, ℕ, List, [], ◌∷◌, ◌++◌, refl, sym, ap, ◌∙◌, subst, true, None, Option}
-use Rattle.tab_model.specs.declared.data.Entry.{Entry}
+use Rattle.std.proofs.Common.{◌≡◌, ◌+◌, ℕ, List, [], ◌∷◌, ◌++◌, refl, sym, ◌∙◌, subst, true, None}
 use Rattle.tab_model.specs.declared.data.Limits.{Limits}
-use Rattle.tab_model.specs.declared.data.Reply.{Reply}
 use Rattle.tab_model.specs.declared.data.Reply.TheVariants as reply
-use Rattle.tab_model.specs.declared.ask.Ask.TheVariants.{Join}
 use Rattle.tab_model.specs.State.{State, new, IsSound}
-use Rattle.tab_model.specs.Outcome.{Ask, outcome, step_without_entry}
-use Rattle.tab_model.specs.Run.{Allowed}
+use Rattle.tab_model.specs.Outcome.{step_without_entry}
 use Rattle.tab_post.specs.Ends.{empty_outbox}
-use Rattle.tab_book.specs.Logs.{Made, made, joined, Makes, IsRunOf, IsWholeRun}
+use Rattle.tab_book.specs.Logs.{Made, joined, Makes, IsRunOf, IsWholeRun}
 use Rattle.tab_book.specs.Steps.{has_free_seat, with_new_session}
 use Rattle.tab_book.proofs.Keeping.{joins_made}
 

@@ -19,7 +19,7 @@ use arrayvec::ArrayVec;
 use std::alloc::{AllocError, Global};
 use std::marker::Model;
 use tab_core::{Core, Rest, SESSIONS, Step};
-use tab_journal::Journal;
+use tab_journal::{Folded, Journal};
 use tab_model::Limits;
 use tab_post::{Channel, ChannelPost, Host, Inbox, NewMailbox, Prefix, Register};
 use tab_tables::Catalog;
@@ -28,13 +28,22 @@ use tab_term::Atom;
 /// A core whose sessions have mailboxes, its journal, and the log of its steps.
 #[derive(Drop)]
 pub struct Book<H: Host> {
-    host: H,
+    pub(crate) host: H,
     pub(crate) alloc: Global,
     register: Register<Channel, H>,
     prefix: Prefix<Channel, H>,
     pub(crate) log: Log<H>,
     pub(crate) core: Core<ChannelPost<H>>,
     pub(crate) journal: Journal,
+    /// What was folded last.
+    pub(crate) folded: Option<Folded>,
+}
+
+/// What the steps replaced, whose drop may take long.
+#[derive(Drop)]
+pub struct Replaced {
+    tables: Option<Catalog>,
+    folded: Option<Folded>,
 }
 
 impl<H: Host> Model for Book<H> {
@@ -91,7 +100,18 @@ impl<H: Host> Book<H> {
             log: Log::new(host, steps),
             core: Core::new(alloc, limits),
             journal,
+            folded: None,
         })
+    }
+
+    /// What the last steps replaced, so that a caller that holds a lock can drop it after it.
+    pub fn take_replaced(&mut self) -> Replaced
+        ensures { self.new ≡ self.old }
+    {
+        Replaced {
+            tables: self.core.take_replaced(),
+            folded: self.folded.take(),
+        }
     }
 
     /// The tables as they are committed.
@@ -230,7 +250,7 @@ fn seat<H: Host>(
     ensures unlogged { OnErr result (log.new ≡ log.old) }
     ensures sound { IsSound core.new }
 {
-    let stepped = core.step(session, Step::Join(post))?;
+    let stepped = core.step(log.host(), session, Step::Join(post))?;
     let told = stepped.into_reply();
     log.add(session, Request::Join(mailbox), &told);
     Ok(())

@@ -105,6 +105,11 @@ impl<H: Host> Log<H> {
         }
     }
 
+    /// By which its steps wait.
+    pub fn host(&self) -> &H {
+        &self.host
+    }
+
     /// What is to be seen of it.
     pub fn seen(&self) -> Seen<H>
         ensures { result ≡ self.now }

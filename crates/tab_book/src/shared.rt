@@ -114,13 +114,18 @@ impl<H: Host> Shared<H> {
     }
 
     /// Unlocks the book. If a step released something, it wakes the sessions that may go on since.
-    pub fn let_go(&self, book: MutexGuard<'_, Book<H>>, releases: bool) {
+    /// What was replaced is dropped after that.
+    pub fn let_go(&self, mut book: MutexGuard<'_, Book<H>>, releases: bool) {
+        let replaced = book.take_replaced();
         if !releases {
+            drop(book);
+            drop(replaced);
             return;
         }
         let ready = book.ready();
         drop(book);
         self.bells.ring(&ready);
+        drop(replaced);
     }
 
     /// Joins a session, with a mailbox of its own, whose receiving end it returns. The mailbox is created before the

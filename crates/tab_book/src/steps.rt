@@ -20,7 +20,7 @@ use crate::log::{Request, Seen};
 use crate::step::{Answered, Step, TransactionEnd, Transition};
 use std::alloc::AllocError;
 use tab_core::Stepped;
-use tab_journal::Journal;
+use tab_journal::{Folded, Journal};
 use tab_model::{Command, Entry, Reply, SharedReply};
 use tab_post::Host;
 
@@ -220,7 +220,7 @@ impl<H: Host> Book<H> {
     {
         let leaves = self.leaves(session, &step);
         let request = Request::of(&step);
-        let stepped = self.core.step(session, asked(step))?;
+        let stepped = self.core.step(&self.host, session, asked(step))?;
         let reply = entered(&mut self.journal, stepped);
         self.log.add(session, request, &reply);
         if leaves {
@@ -239,8 +239,12 @@ impl<H: Host> Book<H> {
         ensures err { OnErr result (self.new ≡ self.old) }
     {
         let joined = self.oldest_joined();
-        self.journal
-            .fold_oldest(self.alloc, joined, self.core.tables())
+        let tables = self.core.tables();
+        let folded = self
+            .journal
+            .fold_oldest(&self.host, self.alloc, joined, tables)?;
+        keep(&mut self.folded, folded);
+        Ok(())
     }
 
     /// Returns whether the oldest entry is a subscription whose session is still joined.
@@ -317,4 +321,9 @@ fn entered(journal: &mut Journal, stepped: Stepped) -> SharedReply
         Ok(()) => reply,
         Err(_) => unreachable!(),
     }
+}
+
+/// Keeps what was folded last. What was folded before is dropped.
+fn keep(kept: &mut Option<Folded>, folded: Folded) {
+    *kept = Some(folded);
 }

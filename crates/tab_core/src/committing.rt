@@ -20,6 +20,7 @@ use crate::ending::Ending;
 use crate::machine::Machine;
 use crate::step::{Stepped, with_overflowed};
 use std::alloc::{AllocError, Global};
+use std::sync::Wait;
 use tab_model::{Event, Reply, Schema};
 use tab_outbox::Post;
 use tab_rows::Update;
@@ -52,7 +53,7 @@ impl Updated {
 
 impl<P: Post + Drop> Core<P> {
     /// All growths come first, then the tables move in, the locks go and the batches are put: from there nothing fails.
-    pub(crate) fn commit(&mut self, session: u32) -> Result<Stepped, AllocError>
+    pub(crate) fn commit<R: Wait>(&mut self, rt: &R, session: u32) -> Result<Stepped, AllocError>
         ensures done { IfOk result
             (λ s. StepsTo self.old session (DoCommand command.Commit) s self.new) }
         ensures free { IsTrue (takes_no_memory self.old session (DoCommand command.Commit))
@@ -60,12 +61,12 @@ impl<P: Post + Drop> Core<P> {
         ensures err { OnErr result (self.new ≡ self.old) }
     {
         let Some(ending) = self.machine.outermost(session) else {
-            return self.machine.commit(session);
+            return self.machine.commit(rt, session);
         };
         let Some(updated) = expected(self.machine.alloc, &self.machine, &ending)? else {
-            return self.machine.commit(session);
+            return self.machine.commit(rt, session);
         };
-        deliver_commit(&mut self.machine, session, updated)
+        deliver_commit(rt, &mut self.machine, session, updated)
     }
 
     /// Makes a schema command. It looks for a refusal of the session itself before it takes any memory.
@@ -122,7 +123,8 @@ impl<P: Post + Drop> Core<P> {
 }
 
 /// A commit whose tables and events are made. A refusal leaves all as it was.
-fn deliver_commit<P: Post + Drop>(
+fn deliver_commit<P: Post + Drop, R: Wait>(
+    rt: &R,
     machine: &mut Machine<P>,
     session: u32,
     updated: Updated,
@@ -139,14 +141,15 @@ fn deliver_commit<P: Post + Drop>(
     let prepared = machine
         .sessions
         .prepare(machine.alloc, number, &updated.events)?;
-    let stepped = commit_to(machine, session, updated.into_tables())?;
+    let stepped = commit_to(rt, machine, session, updated.into_tables())?;
     let over = machine.sessions.deliver(prepared);
     Ok(with_overflowed(stepped, over))
 }
 
 /// Commits the session's outermost transaction: with these tables, or else it makes its only change itself, in place if
 /// nothing is shared. If memory is refused nothing changes.
-fn commit_to<P: Post + Drop>(
+fn commit_to<P: Post + Drop, R: Wait>(
+    rt: &R,
     machine: &mut Machine<P>,
     session: u32,
     tables: Option<Catalog>,
@@ -161,7 +164,7 @@ fn commit_to<P: Post + Drop>(
 {
     match tables {
         Some(tables) => Ok(machine.commit_as(session, tables)),
-        None => machine.commit(session),
+        None => machine.commit(rt, session),
     }
 }
 

@@ -18,6 +18,7 @@ use crate::machine::Machine;
 use crate::operating::end_if;
 use crate::step::Stepped;
 use std::alloc::{AllocError, Global};
+use std::sync::Wait;
 use tab_model::{Entry, Limit, Limits, Reply, Sessions, SharedReply};
 use tab_outbox::Post;
 use tab_subs::Transaction;
@@ -81,7 +82,7 @@ impl<P: Post + Drop> Machine<P> {
 
     /// A commit that puts nothing into posts: of a child, or the outermost if no one watches its tables, or one that is
     /// refused. If memory is refused nothing changes.
-    pub(crate) fn commit(&mut self, session: u32) -> Result<Stepped, AllocError>
+    pub(crate) fn commit<R: Wait>(&mut self, rt: &R, session: u32) -> Result<Stepped, AllocError>
         requires kept { IsKept (parts_of self.old) }
         ensures done { IfOk result
             (λ s. CommitsBy (state_with self.old) session s
@@ -103,11 +104,16 @@ impl<P: Post + Drop> Machine<P> {
         if self.waits(session) {
             return Ok(Stepped::without_entry(Reply::WaitingNow));
         }
-        self.commit_at(session, place)
+        self.commit_at(rt, session, place)
     }
 
     /// All growths come first: from there nothing fails.
-    fn commit_at(&mut self, session: u32, place: usize) -> Result<Stepped, AllocError>
+    fn commit_at<R: Wait>(
+        &mut self,
+        rt: &R,
+        session: u32,
+        place: usize,
+    ) -> Result<Stepped, AllocError>
         requires kept { IsKept (parts_of self.old) }
         requires there { IsHeldAt self.old.sessions session place }
         requires idle { IsFalse (is_waiting (state_with self.old) session) }
@@ -131,7 +137,7 @@ impl<P: Post + Drop> Machine<P> {
             join_level(self.sessions.transaction_mut(place));
             return Ok(Stepped::without_entry(Reply::AtomicOk));
         }
-        commit_to(self.alloc, &mut self.catalog, &transaction.store)?;
+        commit_to(rt, self.alloc, &mut self.catalog, &transaction.store)?;
         self.commits += 1;
         let finished = finish(
             self.alloc,
@@ -201,7 +207,12 @@ fn join_level(slot: &mut Option<Transaction>)
 
 /// Makes a transaction's updates in the tables, which share the records that it has already. If there are none it takes
 /// no memory.
-fn commit_to(alloc: Global, catalog: &mut Catalog, store: &TxStore) -> Result<(), AllocError>
+fn commit_to<R: Wait>(
+    rt: &R,
+    alloc: Global,
+    catalog: &mut Catalog,
+    store: &TxStore,
+) -> Result<(), AllocError>
     ensures ok { OnOk result (catalog.new ≡ change_all catalog.old store.now.levels.now.updates) }
     ensures free { store.now.levels.now.updates ≡ [] → IsOk result }
     ensures err { OnErr result (catalog.new ≡ catalog.old) }
@@ -210,7 +221,7 @@ fn commit_to(alloc: Global, catalog: &mut Catalog, store: &TxStore) -> Result<()
     if updates.is_empty() {
         return Ok(());
     }
-    catalog.update(alloc, updates, &Lender::Overlay(store.overlay()))
+    catalog.update(rt, alloc, updates, &Lender::Overlay(store.overlay()))
 }
 
 /// An open transaction is over, and leaves the log its entry.

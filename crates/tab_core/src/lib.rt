@@ -35,6 +35,7 @@ use crate::machine::Machine;
 pub use machine::SESSIONS;
 use std::alloc::{AllocError, Global};
 use std::marker::Model;
+use std::sync::Wait;
 pub use step::Stepped;
 pub use tab_model::Ask as Step;
 use tab_model::{Command, Limits, Reply, SharedReply};
@@ -83,8 +84,14 @@ impl<P: Post + Drop> Core<P> {
     /// One step of a session, whole or, if memory that it takes is refused, not at all. A session joins with an empty post.
     ///
     /// The entries of all steps so far, and what each session took, give the tables again (`IsTied`), from before the step to after it.
-    #[inline(always)]
-    pub fn step(&mut self, session: u32, step: Step<P>) -> Result<Stepped, AllocError>
+    ///
+    /// A commit that is refused midway waits for the memory that undoes it, by `rt`.
+    pub fn step<R: Wait>(
+        &mut self,
+        rt: &R,
+        session: u32,
+        step: Step<P>,
+    ) -> Result<Stepped, AllocError>
         ensures done { IfOk result
             (λ s. StepsTo self.old session (ask_of P.outbox step) s self.new) }
         ensures tied { IfOk result
@@ -100,12 +107,22 @@ impl<P: Post + Drop> Core<P> {
     {
         // Known of the core is that it is sound, before the step and after it.
         let _ = &self.machine;
-        let stepped = self.make(session, step);
+        self.drop_replaced();
+        let stepped = self.make(rt, session, step);
         let _ = &self.machine;
         stepped
     }
 
-    fn make(&mut self, session: u32, step: Step<P>) -> Result<Stepped, AllocError>
+    // What the last step replaced is seldom there.
+    fn drop_replaced(&mut self)
+        ensures { self.new ≡ self.old }
+    {
+        if self.machine.replaced.is_some() {
+            self.machine.replaced = None;
+        }
+    }
+
+    fn make<R: Wait>(&mut self, rt: &R, session: u32, step: Step<P>) -> Result<Stepped, AllocError>
         ensures done { IfOk result
             (λ s. StepsTo self.old session (ask_of P.outbox step) s self.new) }
         ensures free { IsTrue (takes_no_memory self.old session (ask_of P.outbox step))
@@ -117,17 +134,22 @@ impl<P: Post + Drop> Core<P> {
             Step::Leave => Ok(self.leave(session)),
             Step::Retry => self.retry(session),
             Step::Take => Ok(self.take(session)),
-            Step::Do(command) => self.command(session, command),
+            Step::Do(command) => self.command(rt, session, command),
         }
     }
 
-    fn command(&mut self, session: u32, command: Command) -> Result<Stepped, AllocError>
+    fn command<R: Wait>(
+        &mut self,
+        rt: &R,
+        session: u32,
+        command: Command,
+    ) -> Result<Stepped, AllocError>
         ensures done { IfOk result (λ s. StepsTo self.old session (DoCommand command) s self.new) }
         ensures free { IsTrue (takes_no_memory self.old session (DoCommand command)) → IsOk result }
         ensures err { OnErr result (self.new ≡ self.old) }
     {
         match command {
-            Command::Commit => self.commit(session),
+            Command::Commit => self.commit(rt, session),
             Command::Schema(schema) => self.schema(session, schema),
             Command::Subscribe(table, level, dump) => self.subscribe(session, table, level, dump),
             Command::Unsubscribe(table, level) => self.unsubscribe(session, table, level),
@@ -137,8 +159,9 @@ impl<P: Post + Drop> Core<P> {
 
     /// Steps in order, with their replies; a step refused for memory has the reply NoMemory. The answer is
     /// reserved first: its error means that no step was made.
-    pub fn run_steps(
+    pub fn run_steps<R: Wait>(
         &mut self,
+        rt: &R,
         alloc: Global,
         steps: Vec<(u32, Step<P>)>,
     ) -> Result<Vec<SharedReply>, AllocError>
@@ -157,21 +180,29 @@ impl<P: Post + Drop> Core<P> {
         let _ = &self.machine;
         let mut replies = Vec::with_capacity(alloc, steps.len())?;
         for (session, step) in steps {
-            let reply = self.step_reply(session, step);
+            let reply = self.step_reply(rt, session, step);
             replies.push_reserved(reply);
         }
         Ok(replies)
     }
 
     /// Makes one step of a session. Its reply is NoMemory if memory was refused.
-    fn step_reply(&mut self, session: u32, step: Step<P>) -> SharedReply
+    fn step_reply<R: Wait>(&mut self, rt: &R, session: u32, step: Step<P>) -> SharedReply
         ensures { (log : List EntryOf)
             × StepsOrNoMemory self.old (session, ask_of P.outbox step) result log self.new }
     {
-        match self.step(session, step) {
+        match self.step(rt, session, step) {
             Ok(stepped) => stepped.into_reply(),
             Err(_) => SharedReply::new(Reply::NoMemory),
         }
+    }
+
+    /// The tables before the last step, if it was a schema command. A caller that holds a lock can drop them after it; the next
+    /// step drops them otherwise.
+    pub fn take_replaced(&mut self) -> Option<Catalog>
+        ensures { self.new ≡ self.old }
+    {
+        self.machine.replaced.take()
     }
 
     /// The tables as they are committed.

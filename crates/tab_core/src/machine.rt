@@ -39,6 +39,8 @@ pub(crate) struct Machine<P: Post> {
     /// The greatest number that has joined.
     pub greatest: u32,
     pub limits: Limits,
+    /// The tables before the last schema command, whose drop may take long.
+    pub replaced: Option<Catalog>,
 }
 
 // A derived Drop would be taken apart, field by field, at each exit of each caller.
@@ -54,7 +56,9 @@ impl<P: Post + Drop> Drop for Machine<P> {
             commits: _,
             greatest: _,
             limits: _,
+            replaced,
         } = self;
+        drop(replaced);
         drop(catalog);
         drop(sessions);
         drop(ages);
@@ -79,6 +83,7 @@ impl<P: Post + Drop> Machine<P> {
             commits: 0,
             greatest: 0,
             limits,
+            replaced: None,
         }
     }
 

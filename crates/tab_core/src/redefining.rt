@@ -11,6 +11,7 @@ ghost use Rattle.tab_core.specs.Redefining.{Redefines};
 use crate::machine::Machine;
 use crate::step::Stepped;
 use std::alloc::AllocError;
+use std::mem;
 use tab_model::{Entry, Limit, Reply, Schema, Sessions, SharedReply};
 use tab_outbox::Post;
 use tab_tables::{Catalog, Redefined, redefine};
@@ -51,7 +52,7 @@ impl<P: Post + Drop> Machine<P> {
         if !self.has_room(&asked.value) {
             return Ok(Stepped::without_entry(Reply::SystemLimit(Limit::Tables)));
         }
-        self.catalog = catalog;
+        self.replaced = Some(mem::replace(&mut self.catalog, catalog));
         Ok(Stepped {
             reply: SharedReply::new(Reply::AtomicOk),
             entry: Some(Entry::Changed(

@@ -3,3 +3,4 @@ pub mod FurtherOf
 pub mod BoundKey
 pub mod Indexed
 pub mod Pairs
+pub mod Standing

@@ -1,12 +1,14 @@
 //! A table without its indexes.
 
-ghost use Rattle.std.specs.Prelude.{◌≡◌, [], IfOk, MatchOption, OnOk, OnErr};
+ghost use Rattle.std.specs.Prelude.{◌≡◌, [], IfOk, IsTrue, MatchOption, OnOk, OnErr};
 ghost use Rattle.tab_term.specs.View.{term};
 ghost use Rattle.tab_model.specs.Names.{plain_terms};
-ghost use Rattle.tab_model.specs.Tables.{at, apply as apply_in};
+ghost use Rattle.tab_model.specs.Tables.{at, apply as apply_in, is_ordered};
 ghost use Rattle.tab_model.specs.Definitions.{with_indexes, add_number, less_number};
 ghost use Rattle.tab_model.specs.Catalogs.{with_rows, with_def};
+ghost use Rattle.tab_rows.specs.Restored.{restored};
 
+use crate::standing::Standing;
 use crate::table::IndexedTable;
 use std::alloc::{AllocError, Global};
 use std::marker::Model;
@@ -139,6 +141,26 @@ impl BareTable {
         ensures err { OnErr result (self.new ≡ self.old) }
     {
         self.rows.update(alloc, update, lender)?;
+        Ok(())
+    }
+
+    /// The key's records, which are shared with the table.
+    pub fn standing(&self, alloc: Global, key: Term) -> Result<Standing, AllocError>
+        ensures stands { IfOk result
+            (λ standing. standing ≡ (term key, at self.now.rows (term key))) }
+        ensures ordered { IsTrue (is_ordered self.now.rows) }
+    {
+        Standing::of(alloc, &self.rows, key)
+    }
+
+    /// Puts a key's records back, in place.
+    pub fn restore(&mut self, alloc: Global, before: &Standing) -> Result<(), AllocError>
+        ensures ok { OnOk result
+            (self.new
+            ≡ with_rows self.old (restored self.old.rows before.now.0 before.now.1)) }
+        ensures err { OnErr result (self.new ≡ self.old) }
+    {
+        before.restore(alloc, &mut self.rows)?;
         Ok(())
     }
 

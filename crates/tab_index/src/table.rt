@@ -8,6 +8,7 @@ ghost use Rattle.tab_model.specs.Tables.{at, keys as keys_of_rows, apply as appl
 ghost use Rattle.tab_model.specs.Definitions.{has_number, with_indexes, add_number, less_number};
 ghost use Rattle.tab_model.specs.Catalogs.{with_rows, with_def};
 ghost use Rattle.tab_rows.specs.Joined.{joined, IsInOrder};
+ghost use Rattle.tab_rows.specs.Restored.{restored};
 ghost use Rattle.tab_map.specs.KeyList.{KeysAscend};
 ghost use Rattle.tab_index.specs.FurtherOf.{AreApart};
 ghost use Rattle.tab_index.specs.IndexOf.{AreKeysWith, IsIndexOf};
@@ -17,6 +18,7 @@ use crate::index::Index;
 use crate::indexes::{
     empty_indexes, indexes_of, new_place, other_indexes, positions_of, shared_indexes,
 };
+use crate::standing::Standing;
 use std::alloc::{AllocError, Global};
 use std::marker::Model;
 use std::slice;
@@ -288,6 +290,41 @@ impl IndexedTable {
         }
         *self = self.updated(alloc, slice::from_ref(update), lender)?;
         Ok(())
+    }
+
+    /// The key's records, which are shared with the table.
+    pub fn standing(&self, alloc: Global, key: Term) -> Result<Standing, AllocError>
+        ensures stands { IfOk result
+            (λ standing. standing ≡ (term key, at self.now.rows (term key))) }
+        ensures ordered { IsTrue (is_ordered self.now.rows) }
+    {
+        Standing::of(alloc, &self.rows, key)
+    }
+
+    /// Puts a key's records back. A table without indexes is changed in place; the indexes of another are built again.
+    pub fn restore(&mut self, alloc: Global, before: &Standing) -> Result<(), AllocError>
+        ensures ok { OnOk result
+            (self.new
+            ≡ with_rows self.old (restored self.old.rows before.now.0 before.now.1)) }
+        ensures err { OnErr result (self.new ≡ self.old) }
+    {
+        if self.indexes.is_empty() {
+            before.restore(alloc, &mut self.rows)?;
+            return Ok(());
+        }
+        *self = self.restored(alloc, before)?;
+        Ok(())
+    }
+
+    // The table with a key's records put back. This one stays as it was.
+    fn restored(&self, alloc: Global, before: &Standing) -> Result<IndexedTable, AllocError>
+        ensures { IfOk result
+            (λ table. table
+            ≡ with_rows self.now (restored self.now.rows before.now.0 before.now.1)) }
+    {
+        let mut rows = self.rows.share()?;
+        before.restore(alloc, &mut rows)?;
+        IndexedTable::of(alloc, Arc::try_clone(&self.def)?, rows)
     }
 }
 

@@ -8,6 +8,8 @@ use crate::subscriptions::{Subscription, forget, keep, removed, subscribe, unsub
 use crate::survivors::surviving;
 use std::alloc::{AllocError, Global};
 use std::marker::Model;
+use std::mem;
+use std::sync::Wait;
 use tab_model::Entry;
 use tab_tables::{BareCatalog, Catalog, Lender};
 
@@ -72,14 +74,16 @@ impl Base {
     }
 
     /// Folds an entry. For one that subscribes, `joined` states whether its session is still joined. A set's record is
-    /// shared with the entry's move. A bag's is shared with these tables, if it is there as the entry wrote it.
-    pub(crate) fn fold(
+    /// shared with the entry's move. A bag's is shared with these tables, if it is there as the entry wrote it. Returns the tables
+    /// before a schema command, whose drop may take long.
+    pub(crate) fn fold<R: Wait>(
         &mut self,
+        rt: &R,
         alloc: Global,
         joined: bool,
         entry: &Entry,
         tables: &Catalog,
-    ) -> Result<(), AllocError>
+    ) -> Result<Option<BareCatalog>, AllocError>
         ensures ok { OnOk result (self.new ≡ after_fold joined self.old entry.now) }
         ensures err { OnErr result (self.new ≡ self.old) }
     {
@@ -94,14 +98,16 @@ impl Base {
                 let moves = moves.items.as_slice();
                 let updates = surviving(alloc, moves, told.items.as_slice())?;
                 let lender = Lender::Tables(tables);
-                self.tables.update(alloc, updates.as_slice(), &lender)?;
+                self.tables.update(rt, alloc, updates.as_slice(), &lender)?;
                 keep(&mut self.subscriptions, overflowed.items.as_slice(), None);
                 self.commits = *number;
             }
             Entry::Changed(command, overflowed) => {
-                self.tables = self.tables.redefined(alloc, command)?;
+                let tables = self.tables.redefined(alloc, command)?;
+                let before = mem::replace(&mut self.tables, tables);
                 let gone = removed(command);
                 keep(&mut self.subscriptions, overflowed.items.as_slice(), gone);
+                return Ok(Some(before));
             }
             Entry::Subscribed {
                 session,
@@ -117,7 +123,7 @@ impl Base {
                 unsubscribe(&mut self.subscriptions, *session, table);
             }
         }
-        Ok(())
+        Ok(None)
     }
 
     /// Drops the subscriptions of a session that has left. Takes no memory.

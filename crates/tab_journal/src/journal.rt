@@ -12,8 +12,9 @@ use crate::bytes::bytes_of;
 use circular_buffer::HeapCircularBuffer;
 use std::alloc::{AllocError, Global};
 use std::marker::Model;
+use std::sync::Wait;
 use tab_model::Entry;
-use tab_tables::Catalog;
+use tab_tables::{BareCatalog, Catalog};
 
 /// The weight of its entries at which a journal is full, whatever its limit of entries is. A move keeps its operation
 /// and its reply, which is many times what a client has to send for it.
@@ -22,6 +23,14 @@ const FULL_WEIGHT: usize = 131_072;
 /// The weight of a command on a table: as much as a transaction of most moves, since it keeps its options. So by weight a step
 /// folds at most one command. By bytes it may fold several.
 const COMMAND_WEIGHT: usize = 2_000;
+
+/// An entry that was folded, and the base's tables before it if it is a schema command. A caller that holds a lock can drop them
+/// after it: that may take long.
+#[derive(Drop)]
+pub struct Folded {
+    pub entry: Option<Entry>,
+    pub tables: Option<BareCatalog>,
+}
 
 /// The entries that are not folded yet, oldest first, with their weight, their bytes and their base.
 #[derive(Drop)]
@@ -143,25 +152,29 @@ impl Journal {
     }
 
     /// Folds the oldest entry into the base. For one that subscribes the caller states whether its session is still
-    /// joined. Records that are in these tables as the entry wrote them are shared with them and not copied.
-    pub fn fold_oldest(
+    /// joined. Records that are in these tables as the entry wrote them are shared with them and not copied. Returns what is no
+    /// longer needed.
+    pub fn fold_oldest<R: Wait>(
         &mut self,
+        rt: &R,
         alloc: Global,
         joined: bool,
         tables: &Catalog,
-    ) -> Result<(), AllocError>
+    ) -> Result<Folded, AllocError>
         requires { 0 < length self.old.entries }
         ensures ok { OnOk result (self.new ≡ fold_oldest_of joined self.old) }
         ensures err { OnErr result (self.new ≡ self.old) }
     {
-        if let Some(entry) = self.entries.front() {
-            self.base.fold(alloc, joined, entry, tables)?;
+        let tables = match self.entries.front() {
+            Some(entry) => self.base.fold(rt, alloc, joined, entry, tables)?,
+            None => None,
+        };
+        let entry = self.entries.pop_front();
+        if let Some(entry) = &entry {
+            self.weight -= weight_of(entry);
+            self.bytes -= bytes_of(entry, self.most_bytes);
         }
-        if let Some(entry) = self.entries.pop_front() {
-            self.weight -= weight_of(&entry);
-            self.bytes -= bytes_of(&entry, self.most_bytes);
-        }
-        Ok(())
+        Ok(Folded { entry, tables })
     }
 
     /// Drops the subscriptions of a session that has left from the base. Takes no memory.

@@ -16,5 +16,5 @@ mod subscriptions;
 mod survivors;
 
 pub use base::Base;
-pub use journal::Journal;
+pub use journal::{Folded, Journal};
 pub use subscriptions::Subscription;

@@ -1,11 +1,9 @@
 -- Lists of terms and answers may cross threads and be shared by them, as what they hold may. The ring of answers has the law
 -- where each of its layers does.
-use denote.RattleType.{RattleType}
 use denote.Param.Send.{IsSend, IsSync, sendable}
 use denote.Param.SendFields.{as_row_send, as_row_sync, declared_send, declared_sync, variants_send, variants_sync}
 use Rattle.std.proofs.Crossing.{Vec-send, Vec-sync, Arc-send, Arc-sync}
-use Rattle.tab_map.specs.contracts.set.Set as set
-use Rattle.tab_map.proofs.Crossing.{Entry-send, Entry-sync, Map-send, Map-sync}
+use Rattle.tab_map.proofs.Crossing.{Entry-send, Entry-sync, Map-send, Map-sync, Set-send, Set-sync}
 use Rattle.tab_records.proofs.Crossing.{Records-send, Records-sync}
 use Rattle.tab_term.proofs.Crossing.{Term-send, Term-sync, Terms-send, Terms-sync}
 use Rattle.tab_lists.proofs.answers.Answers.TheLaws.TheKnot.{send-Answers, sync-Answers}
@@ -22,12 +20,6 @@ use Rattle.tab_lists.specs.contracts.query.AtKeys as at_keys
 use Rattle.tab_lists.specs.contracts.snapshot.Snapshot as snapshot
 use Rattle.tab_lists.specs.contracts.shared_terms.Form as form
 use Rattle.tab_lists.specs.contracts.shared_terms.SharedTerms as shared_terms
-
-Set-send : (K : RattleType) (a : _) (o : _) (e : _) (p : _) → IsSend K → IsSync K → IsSend (set.the_row K a o e p)
-Set-send K a o e p sk yk = search (sendable, declared_send, as_row_send, Map-send) depth 20
-
-Set-sync : (K : RattleType) (a : _) (o : _) (e : _) (p : _) → IsSend K → IsSync K → IsSync (set.the_row K a o e p)
-Set-sync K a o e p sk yk = search (sendable, declared_sync, as_row_sync, Map-sync) depth 20
 
 Condition-send : IsSend condition.the_row
 Condition-send = search (sendable, declared_send, as_row_send, variants_send, Term-send) depth 20

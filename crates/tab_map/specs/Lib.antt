@@ -1,6 +1,7 @@
 pub mod Entries
 pub mod InOrder
 pub mod KeyList
+pub mod Sets
 pub mod Places
 pub mod TreeFalls
 pub mod Revised

@@ -1,9 +1,12 @@
-//! An ordered set: a map whose values say nothing.
+//! An ordered set: a single key, or a map whose values say nothing.
 ghost use Rattle.std.specs.Prelude.{◌≡◌, ◌↔◌, [], ◌∷◌, IfOk, OnOk, OnErr, IsTrue, slice_get};
 ghost use Rattle.std.specs.Iterator.{YieldsFirstRef, item_count};
 ghost use Rattle.std.specs.Option.{option_copied};
+ghost use Rattle.tab_map.specs.Entries.{insert_entry};
 ghost use Rattle.tab_map.specs.KeyList.{KeysAscend, contains_key, insert_key, remove_key};
+ghost use Rattle.tab_map.specs.Sets.{held};
 
+use crate::entry::{Entry, Sought};
 use crate::{Iter, Map};
 use std::alloc::{AllocError, Global};
 use std::iter::FusedIterator;
@@ -11,9 +14,15 @@ use std::marker::Model;
 use tab_key::Abbreviate;
 
 /// A set of keys in their order, which shares its nodes with its copies, as a [`Map`] does.
-#[derive(Drop)]
 pub struct Set<K: Abbreviate> {
-    map: Map<K, ()>,
+    form: Form<K>,
+}
+
+/// Most sets of an index have one key, which takes one allocation here, and three in a map.
+enum Form<K: Abbreviate> {
+    One(Entry<K, ()>),
+    /// Any number of keys: also none, and one that others were taken from.
+    Many(Map<K, ()>),
 }
 
 impl<K: Abbreviate> Model for Set<K> {
@@ -22,8 +31,26 @@ impl<K: Abbreviate> Model for Set<K> {
     ghost Value = { List K };
 
     ghost use Rattle.tab_map.specs.KeyList.{keys};
+    ghost use Rattle.tab_map.specs.Sets.{held};
 
-    ghost view = { λ set. keys set.map };
+    ghost view = { λ set. keys (held set.form) };
+}
+
+// A derived Drop would be taken apart, variant by variant, at each exit of each caller.
+impl<K: Abbreviate + Drop> Drop for Form<K> {
+    fn drop(self) {
+        match self {
+            Form::One(entry) => drop(entry),
+            Form::Many(map) => drop(map),
+        }
+    }
+}
+
+impl<K: Abbreviate + Drop> Drop for Set<K> {
+    fn drop(self) {
+        let Set { form } = self;
+        drop(form);
+    }
 }
 
 impl<K: Abbreviate + Drop> Set<K> {
@@ -31,16 +58,23 @@ impl<K: Abbreviate + Drop> Set<K> {
     pub fn new() -> Set<K>
         ensures { result ≡ [] }
     {
-        Set { map: Map::new() }
+        Set {
+            form: Form::Many(Map::new()),
+        }
     }
 
     /// The same set, in constant time. It allocates nothing, as with a map.
     pub fn share(&self) -> Result<Set<K>, AllocError>
         ensures { IfOk result (λ set. set ≡ self.now) }
     {
-        Ok(Set {
-            map: self.map.share()?,
-        })
+        match &self.form {
+            Form::One(entry) => Ok(Set {
+                form: Form::One(entry.try_clone()?),
+            }),
+            Form::Many(map) => Ok(Set {
+                form: Form::Many(map.share()?),
+            }),
+        }
     }
 
     /// Whether the set has no key, in constant time.
@@ -48,7 +82,10 @@ impl<K: Abbreviate + Drop> Set<K> {
         ensures empty { IsTrue result ↔ (self.now ≡ []) }
         ensures ascends { KeysAscend K.cmp self.now }
     {
-        self.map.is_empty()
+        match &self.form {
+            Form::One(_) => false,
+            Form::Many(map) => map.is_empty(),
+        }
     }
 
     /// Whether the key is in the set.
@@ -56,23 +93,28 @@ impl<K: Abbreviate + Drop> Set<K> {
         ensures found { result ≡ contains_key K.cmp key.now self.now }
         ensures ascends { KeysAscend K.cmp self.now }
     {
-        self.map.contains_key(key)
+        match &self.form {
+            Form::One(entry) => Sought::new(key).order(entry).is_eq(),
+            Form::Many(map) => map.contains_key(key),
+        }
     }
 
     /// The set with the key.
     pub fn inserted(&self, alloc: Global, key: K) -> Result<Set<K>, AllocError>
         ensures { IfOk result (λ set. set ≡ insert_key K.cmp key self.now) }
     {
-        let with_key = self.map.inserted(alloc, key, ())?;
-        Ok(Set { map: with_key })
+        let mut set = self.share()?;
+        set.insert(alloc, key)?;
+        Ok(set)
     }
 
     /// The set without the key.
     pub fn removed(&self, alloc: Global, key: &K) -> Result<Set<K>, AllocError>
         ensures { IfOk result (λ set. set ≡ remove_key K.cmp key.now self.now) }
     {
-        let without_key = self.map.removed(alloc, key)?;
-        Ok(Set { map: without_key })
+        let mut set = self.share()?;
+        set.remove(alloc, key)?;
+        Ok(set)
     }
 
     /// Puts the key in. Sets that share nodes with this one keep their keys.
@@ -80,7 +122,7 @@ impl<K: Abbreviate + Drop> Set<K> {
         ensures ok { OnOk result (self.new ≡ insert_key K.cmp key self.old) }
         ensures err { OnErr result (self.new ≡ self.old) }
     {
-        self.map.insert(alloc, key, ())
+        self.form.insert(alloc, Entry::new(alloc, (key, ()))?)
     }
 
     /// Takes the key out. It allocates where it copies a shared node.
@@ -88,7 +130,15 @@ impl<K: Abbreviate + Drop> Set<K> {
         ensures ok { OnOk result (self.new ≡ remove_key K.cmp key.now self.old) }
         ensures err { OnErr result (self.new ≡ self.old) }
     {
-        self.map.remove(alloc, key)
+        match &mut self.form {
+            Form::One(entry) => {
+                if Sought::new(key).order(entry).is_eq() {
+                    self.form = Form::Many(Map::new());
+                }
+                Ok(())
+            }
+            Form::Many(map) => map.remove(alloc, key),
+        }
     }
 
     /// The keys in their order.
@@ -96,16 +146,49 @@ impl<K: Abbreviate + Drop> Set<K> {
         ensures keys { result ≡ self.now }
         ensures ascends { KeysAscend K.cmp self.now }
     {
-        Keys {
-            entries: self.map.iter(),
+        match &self.form {
+            Form::One(entry) => Keys {
+                left: Left::One(Some(&entry.pair().0)),
+            },
+            Form::Many(map) => Keys {
+                left: Left::Many(map.iter()),
+            },
         }
+    }
+}
+
+impl<K: Abbreviate + Drop> Form<K> {
+    fn insert(&mut self, alloc: Global, entry: Entry<K, ()>) -> Result<(), AllocError>
+        ensures ok { OnOk result (held self.new ≡ insert_entry K.cmp entry (held self.old)) }
+        ensures err { OnErr result (held self.new ≡ held self.old) }
+    {
+        match self {
+            Form::One(one) if entry.sought().order(one).is_eq() => *one = entry,
+            Form::One(one) => {
+                // The entry stays in its place too until nothing can fail.
+                let mut both = Map::new();
+                both.insert_entry(alloc, one.try_clone()?)?;
+                both.insert_entry(alloc, entry)?;
+                *self = Form::Many(both);
+            }
+            Form::Many(map) if map.is_empty() => *self = Form::One(entry),
+            Form::Many(map) => map.insert_entry(alloc, entry)?,
+        }
+        Ok(())
     }
 }
 
 /// The keys of a set in their order, seen as the list of those that are left.
 #[derive(Drop)]
 pub struct Keys<'a, K: Abbreviate> {
-    entries: Iter<'a, K, ()>,
+    left: Left<'a, K>,
+}
+
+/// What a walk over either form of a set has left.
+#[derive(Drop)]
+enum Left<'a, K: Abbreviate> {
+    One(Option<&'a K>),
+    Many(Iter<'a, K, ()>),
 }
 
 impl<'a, K: Abbreviate> Model for Keys<'a, K> {
@@ -113,9 +196,9 @@ impl<'a, K: Abbreviate> Model for Keys<'a, K> {
 
     ghost Value = { List K };
 
-    ghost use Rattle.tab_map.specs.KeyList.{keys};
+    ghost use Rattle.tab_map.specs.Sets.{keys_left};
 
-    ghost view = { λ it. keys it.entries };
+    ghost view = { λ it. keys_left it.left };
 }
 
 impl<'a, K: Abbreviate + Drop> Iterator for Keys<'a, K> {
@@ -126,8 +209,10 @@ impl<'a, K: Abbreviate + Drop> Iterator for Keys<'a, K> {
     ghost remaining = { item_count (λ left. left) };
 
     fn next(&mut self) -> Option<&'a K> {
-        let entry = self.entries.next()?;
-        Some(&entry.pair().0)
+        match &mut self.left {
+            Left::One(key) => key.take(),
+            Left::Many(entries) => Some(&entries.next()?.pair().0),
+        }
     }
 }
 

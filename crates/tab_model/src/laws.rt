@@ -83,7 +83,7 @@ pub fn every_schedule()
 /// is the operations told to wait that were not answered since, dropped by an abort or left; the number of commits is the
 /// log's; the next age is one more than the outermost begins. An overflow that a session was not told yet is its last one, with the number of its commit or, where
 /// the marker of a deletion was refused, of the next commit; a Take that is told an overflow is told that one. A post's refusals
-/// are those of its own puts: as many as it had at its join, and one more, up to the greatest 64 bit number, for each marker
+/// are those of its own puts: as many as at its join, and one more, up to the greatest 64 bit number, for each marker
 /// that its session is told doesn't fit, and for each overflow. Each step keeps what callers know, and its entry is the one
 /// that its caller tells.
 #[tactic(auto, using(crate::proofs::CallersLemmas::new_observed, crate::proofs::CallersLemmas::schedule_log, crate::proofs::CallersLemmas::schedule_observed_legal, crate::proofs::CallersLemmas::schedule_observed_told, crate::proofs::CallersPosts::schedule_told_overflow))]

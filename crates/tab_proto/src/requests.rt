@@ -15,6 +15,7 @@ use tab_term::{Atom, Term};
 
 /// A session's number and what it asks, from `{Session, X}`. Session numbers are 1 to 4,294,967,295. Every other term is
 /// BadCommand. Records and keys are taken out of the term, and not copied; only the parts of a one-shot take memory.
+#[inline(always)]
 pub fn read_request(alloc: Global, held: Term) -> Result<(u32, Ask<()>), ProtoFault>
     ensures ok { IfOk result
         (λ r. (request_term r.0 r.1 ≡ term held) × IsSession r.0 × IsRequest r.1) }

@@ -219,7 +219,7 @@ pub at_entry : (es : List Entry) (q : Term) (o : Option (Bor Entry)) → IsInOrd
 at_entry es q None o h = at-joined es q o.ascends o.keyed ∙ ap found_in (sym h)
 at_entry es q (Some e) o h = at_found es q e.now.1 o h
 
-order_insert : (k : Term) (ts : PlainTerms) (es : List Entry) → IsInOrder es → IsKeyed (k, ts) → IsInOrder (insert_entry term_cmp (k, ts) es)
+pub order_insert : (k : Term) (ts : PlainTerms) (es : List Entry) → IsInOrder es → IsKeyed (k, ts) → IsInOrder (insert_entry term_cmp (k, ts) es)
 order_insert k ts es o h = record { ascends = ascends_insert term_total (k, ts) es o.ascends; keyed = keyed_insert (k, ts) es h o.keyed }
 
 pub order_remove : (k : Term) (es : List Entry) → IsInOrder es → IsInOrder (remove_entry term_cmp k es)
@@ -254,7 +254,7 @@ put_there es k r ts rk o is there = ap (λ b. Rattle.tab_model.specs.Tables.put_
     round [] = refl
     round (x ∷ xs) = ap (λ ys. x ∷ ys) (round xs)
 
-found_keyed : (es : List Entry) (k : Term) → IsInOrder es → list_all (has_key (term k)) (found_in (lookup term_cmp k es)) ≡ true
+pub found_keyed : (es : List Entry) (k : Term) → IsInOrder es → list_all (has_key (term k)) (found_in (lookup term_cmp k es)) ≡ true
 found_keyed es k o = ap (list_all (has_key (term k))) (sym (at-joined es k o.ascends o.keyed)) ∙ all_filter (joined es)
   where
     cases : (x : PlainTerm) (rows : Rows) → list_all (has_key (term k)) (at rows (term k)) ≡ true → (b : Bool) → has_key (term k) x ≡ b → list_all (has_key (term k)) (if b then x ∷ at rows (term k) else at rows (term k)) ≡ true

@@ -1,4 +1,4 @@
-ghost use Rattle.std.specs.Prelude.{◌≡◌, ◌≤◌, ◌+◌, [], ◌∷◌, ◌++◌, IfOk, OnOk, OnErr, MatchOption, length};
+ghost use Rattle.std.specs.Prelude.{◌≡◌, ◌≤◌, ◌+◌, [], ◌∷◌, ◌++◌, IfOk, IfSome, IsTrue, OnOk, OnErr, MatchOption, length};
 ghost use Rattle.std.specs.List.{list_any};
 ghost use Rattle.tab_model.specs.declared.data.Kind.TheVariants as Kind;
 ghost use Rattle.tab_term.specs.Same.{same};
@@ -6,9 +6,10 @@ ghost use Rattle.tab_map.specs.Entries.{insert_entry};
 ghost use Rattle.tab_term.specs.Order.{term_cmp};
 ghost use Rattle.tab_term.specs.View.{term, terms};
 ghost use Rattle.tab_model.specs.Names.{plain_terms, terms_list};
-ghost use Rattle.tab_model.specs.Tables.{apply, at, key as key_of_row, keys as keys_of_rows, put as put_in, delete as delete_in, delete_object as delete_object_in};
+ghost use Rattle.tab_model.specs.Tables.{apply, at, is_ordered, key as key_of_row, keys as keys_of_rows, put as put_in, delete as delete_in, delete_object as delete_object_in};
 ghost use Rattle.tab_model.specs.OnlyRecords.{IsOnly, record_in};
-ghost use Rattle.tab_rows.specs.Joined.{joined, IsInOrder};
+ghost use Rattle.tab_rows.specs.Joined.{joined, IsInOrder, IsKeyed};
+ghost use Rattle.tab_rows.specs.Restored.{restored, records_of, IsOfKey};
 
 use crate::append::Append;
 use crate::entries::entry_of;
@@ -295,15 +296,75 @@ impl Rows {
         Ok(())
     }
 
-    /// Takes out all records of the key.
-    pub fn delete(&mut self, alloc: Global, key: &Term) -> Result<(), AllocError>
-        ensures ok { OnOk result (self.new ≡ (self.old.0, delete_in self.old.1 (term key.now))) }
+    /// The entry of the key, which is shared with this, to be put back by `restore`. None if the key has no records.
+    pub fn standing(
+        &self,
+        alloc: Global,
+        key: &Term,
+    ) -> Result<Option<Entry<Term, Records>>, AllocError>
+        ensures records { IfOk result
+            (λ entry. records_of entry ≡ at self.now.1 (term key.now)) }
+        ensures key { IfOk result (λ entry. IfSome entry (IsOfKey (term key.now))) }
+    {
+        match self.records.get_entry(key) {
+            Some(entry) => Ok(Some(entry_at(alloc, entry, key)?)),
+            None => Ok(None),
+        }
+    }
+
+    /// Puts records back in the place of those of their key: the entry of the key before, or none. It takes memory
+    /// only if nodes are shared, or were merged since.
+    pub fn restore(
+        &mut self,
+        alloc: Global,
+        key: &Term,
+        before: Option<Entry<Term, Records>>,
+    ) -> Result<(), AllocError>
+        requires { IfSome before (IsOfKey (term key.now)) }
+        ensures ok { OnOk result
+            (self.new ≡ (self.old.0, restored self.old.1 (term key.now) (records_of before))) }
+        ensures ordered { OnOk result (IsTrue (is_ordered self.new.1)) }
+        ensures err { OnErr result (self.new ≡ self.old) }
+    {
+        match before {
+            Some(entry) => self.put_back(alloc, entry),
+            None => self.take_out(alloc, key),
+        }
+    }
+
+    fn put_back(&mut self, alloc: Global, entry: Entry<Term, Records>) -> Result<(), AllocError>
+        requires { IsKeyed entry }
+        ensures ok { OnOk result
+            (self.new ≡ (self.old.0, restored self.old.1 (term entry.0) (terms_list entry.1))) }
+        ensures ordered { OnOk result (IsTrue (is_ordered self.new.1)) }
+        ensures err { OnErr result (self.new ≡ self.old) }
+    {
+        let size = sum_of(self.size, entry.pair().1.len())?;
+        let before = replace(&mut self.records, alloc, entry)?;
+        self.size = size - before;
+        Ok(())
+    }
+
+    fn take_out(&mut self, alloc: Global, key: &Term) -> Result<(), AllocError>
+        ensures ok { OnOk result
+            (self.new ≡ (self.old.0, restored self.old.1 (term key.now) [])) }
+        ensures deleted { OnOk result
+            (self.new ≡ (self.old.0, delete_in self.old.1 (term key.now))) }
+        ensures ordered { OnOk result (IsTrue (is_ordered self.new.1)) }
         ensures err { OnErr result (self.new ≡ self.old) }
     {
         let size = self.size - self.count_at(key);
         self.records.remove(alloc, key)?;
         self.size = size;
         Ok(())
+    }
+
+    /// Takes out all records of the key.
+    pub fn delete(&mut self, alloc: Global, key: &Term) -> Result<(), AllocError>
+        ensures ok { OnOk result (self.new ≡ (self.old.0, delete_in self.old.1 (term key.now))) }
+        ensures err { OnErr result (self.new ≡ self.old) }
+    {
+        self.take_out(alloc, key)
     }
 
     /// Takes out the equal record, if it is there. A key that has no other record goes with it.
@@ -326,6 +387,22 @@ impl Rows {
     }
 }
 
+// The entry, which a look-up found at this key. No contract of a map says that it is found by its own key.
+fn entry_at(
+    alloc: Global,
+    entry: &Entry<Term, Records>,
+    key: &Term,
+) -> Result<Entry<Term, Records>, AllocError>
+    ensures key { IfOk result (λ found. term found.0 ≡ term key.now) }
+    ensures records { IfOk result (λ found. found.1 ≡ entry.now.1) }
+{
+    let (own, records) = entry.pair();
+    if own == key {
+        return entry.try_clone();
+    }
+    Entry::new(alloc, (key.try_clone(alloc)?, records.try_clone(alloc)?))
+}
+
 // Puts the entry at its key, and tells how many records stood there: one search for both.
 fn replace(
     by_key: &mut Map<Term, Records>,
@@ -344,9 +421,15 @@ fn replace(
     }
 }
 
-// No memory holds as many records as a size can't count.
 fn one_more(size: usize) -> Result<usize, AllocError>
     ensures { IfOk result (λ more. more ≡ size + 1) }
 {
-    size.checked_add(1).ok_or(AllocError)
+    sum_of(size, 1)
+}
+
+// No memory holds as many records as a size can't count.
+fn sum_of(size: usize, more: usize) -> Result<usize, AllocError>
+    ensures { IfOk result (λ sum. sum ≡ size + more) }
+{
+    size.checked_add(more).ok_or(AllocError)
 }

@@ -15,7 +15,8 @@ ghost use Rattle.tab_session.specs.Rereading.{IsAskedBy};
 use crate::one_session::drive;
 use crate::payload::Payload;
 use crate::{Ended, PayloadReply};
-use std::alloc::{AllocError, Global};
+use std::alloc::AllocError;
+use std::sync::Wait;
 use tab_core::{Core, Step, Stepped};
 use tab_etf::{EtfFault, FrameFault, Target, decode};
 use tab_model::{Ask, Command, Limit, Reply, SharedReply};
@@ -26,24 +27,16 @@ use tab_term::Term;
 /// Answers a payload: what is no term is BadTerm under 0, and a term that asks nothing is BadCommand, under the number in
 /// `{Session, X}` or else under 0. A step that is refused for memory is answered NoMemory, and has changed nothing. A one-shot
 /// is answered by the steps of its driver. A session that joins has a post for so many items as `outbox` says.
-pub fn answer(
+pub fn answer<R: AllocGlobal + Wait>(
+    rt: &R,
     core: &mut Core<RingPost>,
-    alloc: Global,
     outbox: usize,
     payload: &[u8],
 ) -> PayloadReply
     ensures { Answered outbox core.old payload.now result core.new }
 {
-    match decode(alloc, payload) {
-        Ok(held) => answer_to(
-            core,
-            outbox,
-            &Payload {
-                alloc,
-                bytes: payload,
-            },
-            held,
-        ),
+    match decode(rt.alloc(), payload) {
+        Ok(held) => answer_to(core, outbox, &Payload { rt, bytes: payload }, held),
         Err(EtfFault::At(_, _)) => PayloadReply {
             session: 0,
             reply: SharedReply::new(Reply::BadTerm),
@@ -56,10 +49,10 @@ pub fn answer(
 }
 
 /// Answers the term that a payload is.
-fn answer_to(
+fn answer_to<R: AllocGlobal + Wait>(
     core: &mut Core<RingPost>,
     outbox: usize,
-    payload: &Payload<'_>,
+    payload: &Payload<'_, R>,
     held: Term,
 ) -> PayloadReply
     requires { whole payload.now.bytes.now ≡ Ok (term held) }
@@ -67,7 +60,7 @@ fn answer_to(
         ⊎ RefusedTerm outbox core.old (term held) result core.new }
 {
     let number = number_of(&held);
-    match read_request(payload.alloc, held) {
+    match read_request(payload.rt.alloc(), held) {
         Ok((session, request)) => PayloadReply {
             session,
             reply: reply_to(core, outbox, payload, session, request),
@@ -94,10 +87,10 @@ fn number_of(held: &Term) -> u32
 }
 
 /// A one-shot is run by its driver, and any other request is one step.
-fn reply_to(
+fn reply_to<R: AllocGlobal + Wait>(
     core: &mut Core<RingPost>,
     outbox: usize,
-    payload: &Payload<'_>,
+    payload: &Payload<'_, R>,
     session: u32,
     request: Ask<()>,
 ) -> SharedReply
@@ -105,23 +98,28 @@ fn reply_to(
     ensures { RepliesTo outbox core.old session request result core.new }
 {
     match request {
-        Ask::Join(()) => join(core, payload.alloc, outbox, session),
-        Ask::Leave => reply_to_step(core, session, Ask::Leave),
-        Ask::Retry => reply_to_step(core, session, Ask::Retry),
-        Ask::Take => reply_to_step(core, session, Ask::Take),
+        Ask::Join(()) => join(core, payload, outbox, session),
+        Ask::Leave => reply_to_step(payload.rt, core, session, Ask::Leave),
+        Ask::Retry => reply_to_step(payload.rt, core, session, Ask::Retry),
+        Ask::Take => reply_to_step(payload.rt, core, session, Ask::Take),
         Ask::Do(command) => reply_to_command(core, payload, session, command),
     }
 }
 
 /// Joins a session with a post of its own, which is created if the session may join.
-fn join(core: &mut Core<RingPost>, alloc: Global, outbox: usize, session: u32) -> SharedReply
+fn join<R: AllocGlobal + Wait>(
+    core: &mut Core<RingPost>,
+    payload: &Payload<'_, R>,
+    outbox: usize,
+    session: u32,
+) -> SharedReply
     ensures { StepMadeOrRefused core.old session (Join (empty_post outbox)) result core.new }
 {
     if let Some(refusal) = join_refusal(core, session) {
         return SharedReply::new(refusal);
     }
-    match RingPost::with_capacity(alloc, outbox) {
-        Ok(post) => reply_to_step(core, session, Ask::Join(post)),
+    match RingPost::with_capacity(payload.rt.alloc(), outbox) {
+        Ok(post) => reply_to_step(payload.rt, core, session, Ask::Join(post)),
         Err(_) => SharedReply::new(Reply::NoMemory),
     }
 }
@@ -143,9 +141,9 @@ fn join_refusal(core: &Core<RingPost>, session: u32) -> Option<Reply>
     Some(Reply::SystemLimit(Limit::Sessions))
 }
 
-fn reply_to_command(
+fn reply_to_command<R: AllocGlobal + Wait>(
     core: &mut Core<RingPost>,
-    payload: &Payload<'_>,
+    payload: &Payload<'_, R>,
     session: u32,
     command: Command,
 ) -> SharedReply
@@ -156,7 +154,7 @@ fn reply_to_command(
     if is_one_shot(&command) {
         return drive(core, payload, session, command);
     }
-    reply_to_step(core, session, Ask::Do(command))
+    reply_to_step(payload.rt, core, session, Ask::Do(command))
 }
 
 fn is_one_shot(command: &Command) -> bool
@@ -169,10 +167,15 @@ fn is_one_shot(command: &Command) -> bool
 }
 
 /// Makes one step of the core, and replies NoMemory if memory is refused.
-fn reply_to_step(core: &mut Core<RingPost>, session: u32, step: Step<RingPost>) -> SharedReply
+fn reply_to_step<R: AllocGlobal + Wait>(
+    rt: &R,
+    core: &mut Core<RingPost>,
+    session: u32,
+    step: Step<RingPost>,
+) -> SharedReply
     ensures { StepMadeOrRefused core.old session (ask_of as_outbox step) result core.new }
 {
-    reply_of(core.step(session, step))
+    reply_of(core.step(rt, session, step))
 }
 
 /// The reply of one step, which is NoMemory if memory was refused.

@@ -11,13 +11,15 @@ ghost use Rattle.tab_session.specs.StepsMade.{StepMadeOrRefused};
 
 use crate::payload::Payload;
 use std::alloc::AllocError;
+use std::sync::Wait;
 use tab_core::{Core, Step};
 use tab_model::{Command, SharedReply};
 use tab_oneshot::{Steps, one_shot};
 use tab_outbox::RingPost;
 
 /// A command of the session.
-fn hand_in(
+fn hand_in<R: AllocGlobal + Wait>(
+    rt: &R,
     core: &mut Core<RingPost>,
     session: u32,
     command: Command,
@@ -26,19 +28,20 @@ fn hand_in(
         (answer_in result) core.new }
     ensures abort { IsTrue (is_abort command) → IsOk result }
 {
-    match core.step(session, Step::Do(command)) {
+    match core.step(rt, session, Step::Do(command)) {
         Ok(stepped) => Ok(stepped.into_reply()),
         Err(refused) => Err(refused),
     }
 }
 
 /// A session of the core, which can't wait for another.
-pub struct OneSession<'a> {
+pub struct OneSession<'a, R> {
+    rt: &'a R,
     core: &'a mut Core<RingPost>,
     session: u32,
 }
 
-impl<'a> Steps for OneSession<'a> {
+impl<'a, R: AllocGlobal + Wait> Steps for OneSession<'a, R> {
     ghost use Rattle.tab_session.specs.SoleSessions.{HasRun, has_run_none, has_run_on};
 
     ghost shows = { HasRun };
@@ -48,7 +51,7 @@ impl<'a> Steps for OneSession<'a> {
     ghost shows_on = { has_run_on };
 
     fn step(&mut self, command: Command) -> Result<SharedReply, AllocError> {
-        hand_in(self.core, self.session, command)
+        hand_in(self.rt, self.core, self.session, command)
     }
 
     fn wait(&mut self) -> Option<Result<SharedReply, AllocError>> {
@@ -59,9 +62,9 @@ impl<'a> Steps for OneSession<'a> {
 }
 
 /// Runs a one-shot, which the payload is, on a session.
-pub fn drive(
+pub fn drive<R: AllocGlobal + Wait>(
     core: &mut Core<RingPost>,
-    payload: &Payload<'_>,
+    payload: &Payload<'_, R>,
     session: u32,
     command: Command,
 ) -> SharedReply
@@ -70,9 +73,11 @@ pub fn drive(
     ensures { (calls : List Call) × Ran session core.old calls core.new
         × IsOneShot command calls result }
 {
-    let mut slot = OneSession { core, session };
-    let reply = one_shot(&mut slot, payload.alloc, command, payload);
+    let rt = payload.rt;
+    let mut slot = OneSession { rt, core, session };
+    let reply = one_shot(&mut slot, payload.rt.alloc(), command, payload);
     let OneSession {
+        rt: _,
         core: _,
         session: _,
     } = slot;

@@ -3,29 +3,30 @@
 ghost use Rattle.std.specs.Prelude.{◌≡◌, IfSome};
 ghost use Rattle.tab_session.specs.Rereading.{parts_in};
 
-use std::alloc::{AllocError, Global};
+use std::alloc::AllocError;
+use std::sync::Wait;
 use tab_etf::decode;
 use tab_model::{Ask, Command, Part};
 use tab_oneshot::Source;
 use tab_proto::read_request;
 
-/// The bytes of a payload, and the memory for what is read from them.
-#[derive(Clone, Copy)]
-pub struct Payload<'a> {
-    pub alloc: Global,
+/// The bytes of a payload, and the runtime: the memory for what is read from them, and what its steps wait by.
+#[derive(Drop)]
+pub struct Payload<'a, R> {
+    pub rt: &'a R,
     pub bytes: &'a [u8],
 }
 
-impl<'a> Source for Payload<'a> {
+impl<'a, R: AllocGlobal + Wait> Source for Payload<'a, R> {
     ghost use Rattle.tab_session.specs.Rereading.{GivesParts};
 
     ghost gives = { λ x parts. GivesParts x.bytes.now parts };
 
     fn again(&self) -> Result<Vec<Part>, AllocError> {
-        let Ok(held) = decode(self.alloc, self.bytes) else {
+        let Ok(held) = decode(self.rt.alloc(), self.bytes) else {
             return Err(AllocError);
         };
-        let Ok((_session, request)) = read_request(self.alloc, held) else {
+        let Ok((_session, request)) = read_request(self.rt.alloc(), held) else {
             return Err(AllocError);
         };
         match parts_of(request) {

@@ -7,7 +7,7 @@ ghost use Rattle.tab_session.specs.Replays.{Replayed, Faults, HasFlushed, fresh}
 
 use crate::Ended;
 use crate::serving::serve_piece;
-use std::alloc::Global;
+use std::sync::Wait;
 use tab_core::Core;
 use tab_etf::{Source, Splitter, Target};
 use tab_model::Limits;
@@ -16,8 +16,8 @@ use tab_outbox::RingPost;
 /// The largest piece that is read at once.
 const PIECE: usize = 65_536;
 
-fn run_all<R: Source, W: Target>(
-    alloc: Global,
+fn run_all<H: AllocGlobal + Wait, R: Source, W: Target>(
+    rt: &H,
     core: &mut Core<RingPost>,
     outbox: usize,
     splitter: &mut Splitter,
@@ -43,7 +43,7 @@ fn run_all<R: Source, W: Target>(
         if count == 0 {
             return end;
         }
-        serve_piece(alloc, core, outbox, splitter, &piece[..count], output)?;
+        serve_piece(rt, core, outbox, splitter, &piece[..count], output)?;
     }
     end_of_stream(splitter)
 }
@@ -70,8 +70,8 @@ fn end_of_stream(splitter: &Splitter) -> Result<(), Ended>
 /// - `TooLong`: those to the first frames, whole.
 /// - `NoMemory`: those to all frames that were read, except those of one last piece.
 /// - `Device`: a beginning of them.
-pub fn replay<R: Source, W: Target>(
-    alloc: Global,
+pub fn replay<H: AllocGlobal + Wait, R: Source, W: Target>(
+    rt: &H,
     input: &mut R,
     output: &mut W,
     outbox: usize,
@@ -84,13 +84,13 @@ pub fn replay<R: Source, W: Target>(
     ensures flushed { IsTrue (W.is_flushed output.old)
         → HasFlushed result (W.is_flushed output.new) }
 {
-    let mut core = Core::new(alloc, Limits::STANDARD);
-    let mut splitter = Splitter::new(alloc);
-    let Ok(mut piece) = vec![in alloc; 0u8; PIECE] else {
+    let mut core = Core::new(rt.alloc(), Limits::STANDARD);
+    let mut splitter = Splitter::new(rt.alloc());
+    let Ok(mut piece) = vec![in rt.alloc(); 0u8; PIECE] else {
         return Err(Ended::NoMemory);
     };
     run_all(
-        alloc,
+        rt,
         &mut core,
         outbox,
         &mut splitter,

@@ -8,7 +8,7 @@ ghost use Rattle.tab_session.specs.Replays.{IsReplaying, Advances, Handed, Serve
 
 use crate::answering::{answer, put_answer, write_answer};
 use crate::{Ended, PayloadReply};
-use std::alloc::Global;
+use std::sync::Wait;
 use tab_core::Core;
 use tab_etf::{Frame, FrameFault, Splitter, Target, give_all};
 use tab_outbox::RingPost;
@@ -52,8 +52,8 @@ fn put<W: Target>(answer: &PayloadReply, buffer: &mut Vec<u8>, output: &mut W) -
 }
 
 /// Answers the payloads of these frames, and writes the replies.
-fn serve_all<W: Target>(
-    alloc: Global,
+fn serve_all<H: AllocGlobal + Wait, W: Target>(
+    rt: &H,
     core: &mut Core<RingPost>,
     outbox: usize,
     frames: &[Frame],
@@ -64,9 +64,9 @@ fn serve_all<W: Target>(
     ensures faults { OneFault (W.faults output.old) (W.faults output.new) result }
     ensures flushed { OnOk result (IsTrue (W.is_flushed output.new)) }
 {
-    let mut buffer = Vec::new(alloc);
+    let mut buffer = Vec::new(rt.alloc());
     for frame in frames {
-        let answer = answer(core, alloc, outbox, payload_in(frame));
+        let answer = answer(rt, core, outbox, payload_in(frame));
         put(&answer, &mut buffer, output)?;
     }
     give_all(output, &buffer)?;
@@ -75,8 +75,8 @@ fn serve_all<W: Target>(
 }
 
 /// Serves the frames that are whole with this piece.
-pub fn serve_piece<W: Target>(
-    alloc: Global,
+pub fn serve_piece<H: AllocGlobal + Wait, W: Target>(
+    rt: &H,
     core: &mut Core<RingPost>,
     outbox: usize,
     splitter: &mut Splitter,
@@ -95,9 +95,9 @@ pub fn serve_piece<W: Target>(
     ensures flushed { HasFlushed result (W.is_flushed output.new) }
 {
     match splitter.feed(piece) {
-        Ok(frames) => serve_all(alloc, core, outbox, &frames, output),
+        Ok(frames) => serve_all(rt, core, outbox, &frames, output),
         Err(FrameFault::FrameTooLong(_)) => {
-            serve_all(alloc, core, outbox, splitter.before_fault(), output)?;
+            serve_all(rt, core, outbox, splitter.before_fault(), output)?;
             Err(Ended::Damaged)
         }
         Err(_) => Err(Ended::NoMemory),

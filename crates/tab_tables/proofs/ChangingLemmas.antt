@@ -10,7 +10,7 @@ use Rattle.tab_model.specs.Tables.{apply}
 use Rattle.tab_model.specs.Catalogs.{Catalog, Table, name_of, find, place, with_rows}
 use Rattle.tab_model.proofs.ChangeLaws.{find-place}
 
-same_name : (a b : List ℕ) → b ≡ a → bytes_eq a b ≡ true
+pub same_name : (a b : List ℕ) → b ≡ a → bytes_eq a b ≡ true
 same_name a b e = (bytes_eq-Decides a b).1 (sym e)
 
 -- the later of two tables of a name stands

@@ -74,7 +74,7 @@ all_named_insert (e ∷ es) x h k = cases (all_named_insert es x h k.1) (bytes_c
 pub named_insert : (es : List Entry) (t : Table) (n : List ℕ) → n ≡ name_of t → AreNamed es → AreNamed (insert_entry bytes_cmp (n, t) es)
 named_insert es t n e w = record { ascends = ascends_insert nat_list_cmp_total (n, t) es w.ascends; named = all_named_insert es (n, t) (sym e) w.named }
 
-named_at : (es : List Entry) (n : List ℕ) → AllNamed es → IfSome (lookup bytes_cmp n es) (λ t. n ≡ name_of t)
+pub named_at : (es : List Entry) (n : List ℕ) → AllNamed es → IfSome (lookup bytes_cmp n es) (λ t. n ≡ name_of t)
 named_at [] n k = tt
 named_at (e ∷ es) n k = cases (named_at es n k.1) (bytes_cmp n e.0) refl
   where

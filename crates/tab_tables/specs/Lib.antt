@@ -1,3 +1,4 @@
 pub mod Named
 pub mod Newer
 pub mod Redefines
+pub mod Undone

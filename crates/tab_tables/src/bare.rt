@@ -5,14 +5,17 @@ ghost use Rattle.std.specs.Option.{option_copied};
 ghost use Rattle.tab_model.specs.Catalogs.{find, place, without as without_table};
 ghost use Rattle.tab_model.specs.Events.{change_all};
 ghost use Rattle.tab_model.specs.Operations.{change_catalog};
+ghost use Rattle.tab_tables.specs.Undone.{undone, all_undone};
 
-use crate::altered::Altered;
+use crate::altered::{Altered, PutBack};
+use crate::before::Before;
 use crate::catalog::Catalog;
 use crate::lender::Lender;
 use crate::tags::table_of_update;
 use std::alloc::{AllocError, Global};
 use std::marker::Model;
-use tab_index::BareTable;
+use std::sync::Wait;
+use tab_index::{BareTable, Standing};
 use tab_map::Map;
 use tab_rows::Update;
 use tab_term::Atom;
@@ -84,10 +87,10 @@ impl BareCatalog {
         })
     }
 
-    /// Makes the changes, in turn. A single change is made in place. Several are made in tables that share what does not
-    /// change, since an error must leave these as they were.
-    pub fn update(
+    /// Makes the changes, in turn, in place. If memory for one is refused, those that were made are undone.
+    pub fn update<R: Wait>(
         &mut self,
+        rt: &R,
         alloc: Global,
         updates: &[Update],
         lender: &Lender<'_>,
@@ -95,27 +98,103 @@ impl BareCatalog {
         ensures ok { OnOk result (self.new ≡ change_all self.old updates.now) }
         ensures err { OnErr result (self.new ≡ self.old) }
     {
-        match updates {
-            [update] => self.change(alloc, update, lender)?,
-            _ => *self = self.updated(alloc, updates, lender)?,
+        if let [update] = updates {
+            return self.change(alloc, update, lender);
+        }
+        let mut stood = Vec::new(alloc);
+        if self.make_all(alloc, updates, lender, &mut stood).is_ok() {
+            return Ok(());
+        }
+        self.undo_all(rt, alloc, stood);
+        Err(AllocError)
+    }
+
+    // Makes the changes in place, and keeps the records that each replaces. An error leaves those that were made.
+    fn make_all(
+        &mut self,
+        alloc: Global,
+        updates: &[Update],
+        lender: &Lender<'_>,
+        stood: &mut Vec<Before>,
+    ) -> Result<(), AllocError>
+        ensures ok { OnOk result (self.new ≡ change_all self.old updates.now) }
+        ensures kept { all_undone self.new stood.new.items
+            ≡ all_undone self.old stood.old.items }
+    {
+        for update in updates {
+            self.make(alloc, update, lender, stood)?;
         }
         Ok(())
     }
 
-    // Only the first change of a table makes a new version of it.
-    fn updated(
-        &self,
+    // There is room for what is kept before the change is made, so that a change that is made is kept.
+    fn make(
+        &mut self,
         alloc: Global,
-        updates: &[Update],
+        update: &Update,
         lender: &Lender<'_>,
-    ) -> Result<BareCatalog, AllocError>
-        ensures { IfOk result (λ tables. tables ≡ change_all self.now updates.now) }
+        stood: &mut Vec<Before>,
+    ) -> Result<(), AllocError>
+        ensures ok { OnOk result (self.new ≡ change_catalog self.old update.now) }
+        ensures kept { all_undone self.new stood.new.items
+            ≡ all_undone self.old stood.old.items }
     {
-        let mut tables = self.share()?;
-        for update in updates {
-            tables.change(alloc, update, lender)?;
+        stood.reserve(1)?;
+        let before = self.before(alloc, update)?;
+        self.change(alloc, update, lender)?;
+        stood.push_reserved(before);
+        Ok(())
+    }
+
+    // The records of a change's key.
+    fn before(&self, alloc: Global, update: &Update) -> Result<Before, AllocError>
+        ensures { IfOk result
+            (λ before. undone (change_catalog self.now update.now) before ≡ self.now) }
+    {
+        let table = table_of_update(alloc, update)?;
+        let key = update.copy_of_key(alloc)?;
+        match self.by_name.get(&table) {
+            Some(found) => {
+                let standing = found.standing(alloc, key)?;
+                Ok(Before { table, standing })
+            }
+            None => {
+                let standing = Standing::none(key);
+                Ok(Before { table, standing })
+            }
         }
-        Ok(tables)
+    }
+
+    // The last first.
+    fn undo_all<R: Wait>(&mut self, rt: &R, alloc: Global, mut stood: Vec<Before>)
+        ensures { self.new ≡ all_undone self.old stood.items }
+    {
+        while let Some(before) = stood.pop() {
+            self.undo(rt, alloc, &before);
+        }
+    }
+
+    // The change took what was shared, so this takes memory only if nodes were merged or emptied; it is repeated until
+    // it has that.
+    fn undo<R: Wait>(&mut self, rt: &R, alloc: Global, before: &Before)
+        ensures { self.new ≡ undone self.old before.now }
+    {
+        for _ in rt.forever() {
+            if self.undo_once(alloc, before).is_ok() {
+                return;
+            }
+        }
+        unreachable!()
+    }
+
+    fn undo_once(&mut self, alloc: Global, before: &Before) -> Result<(), AllocError>
+        ensures ok { OnOk result (self.new ≡ undone self.old before.now) }
+        ensures err { OnErr result (self.new ≡ self.old) }
+    {
+        let name = before.table.try_clone(alloc)?;
+        let before = &before.standing;
+        self.by_name.revise(alloc, name, PutBack { before })?;
+        Ok(())
     }
 
     fn change(

@@ -7,6 +7,7 @@
 
 mod altered;
 mod bare;
+mod before;
 mod catalog;
 mod changing;
 mod event;

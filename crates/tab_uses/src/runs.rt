@@ -7,13 +7,15 @@ ghost use Rattle.tab_model.specs.Run.{IsTied};
 ghost use Rattle.tab_core.specs.Runs.{asks_of, AllJoinEmpty, RunsTo, taken_in};
 
 use std::alloc::{AllocError, Global};
+use std::sync::Wait;
 use tab_core::{Core, Step};
 use tab_model::{Limits, SharedReply, steps_keep_what_holds};
 use tab_outbox::Post;
 
 /// A new core after these steps, and the reply to each. A step for which memory is refused has the reply `NoMemory`,
 /// and the steps after it are made all the same; at the error none is made.
-pub fn core_after<P: Post + Drop>(
+pub fn core_after<P: Post + Drop, R: Wait>(
+    rt: &R,
     alloc: Global,
     limits: Limits,
     steps: Vec<(u32, Step<P>)>,
@@ -29,6 +31,6 @@ pub fn core_after<P: Post + Drop>(
 {
     steps_keep_what_holds();
     let mut core = Core::new(alloc, limits);
-    let replies = core.run_steps(alloc, steps)?;
+    let replies = core.run_steps(rt, alloc, steps)?;
     Ok((core, replies))
 }

@@ -116,7 +116,7 @@ where
 {
     let Program { rt, opened, gate } = program;
     match words {
-        Run::Replay { outbox } => play(rt.alloc(), input, output, outbox),
+        Run::Replay { outbox } => play(rt, input, output, outbox),
         Run::Serve(address, service) => {
             let start = Start {
                 rt: *rt,
@@ -129,14 +129,19 @@ where
     }
 }
 
-fn play<R: Source, W: Target>(alloc: Global, input: &mut R, output: &mut W, outbox: u32) -> End
+fn play<H: AllocGlobal + Wait, R: Source, W: Target>(
+    rt: &H,
+    input: &mut R,
+    output: &mut W,
+    outbox: u32,
+) -> End
     ensures { Plays outbox
         (streams (R.remaining input.old) (W.contents output.old) (R.faults input.old)
         (W.faults output.old))
         (streams (R.remaining input.new) (W.contents output.new) (R.faults input.new)
         (W.faults output.new)) result }
 {
-    end_of_replay(replay(alloc, input, output, outbox as usize))
+    end_of_replay(replay(rt, input, output, outbox as usize))
 }
 
 /// Shows the parser's text: what was asked for on the output, a mistake on the errors. Out of memory has none of its own.

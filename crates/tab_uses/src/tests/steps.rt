@@ -1,7 +1,8 @@
 //! A run of steps, and a command after it.
 
 use crate::{core_after, reply_to};
-use std::alloc::{AllocError, Global};
+use std::alloc::AllocError;
+use std::sync::Wait;
 use std::test::Fail;
 use tab_core::{Core, Step};
 use tab_model::{Command, Limits, Reply, SharedReply};
@@ -16,13 +17,14 @@ static LIMITS: Limits = Limits {
 };
 
 /// A session joins, begins, and commits.
-fn run(alloc: Global) -> Result<(Core<RingPost>, Vec<SharedReply>), AllocError> {
+fn run<R: AllocGlobal + Wait>(rt: &R) -> Result<(Core<RingPost>, Vec<SharedReply>), AllocError> {
+    let alloc = rt.alloc();
     let mut steps = Vec::with_capacity(alloc, 3)?;
     let post = RingPost::with_capacity(alloc, 2)?;
     steps.push_reserved((1, Step::Join(post)));
     steps.push_reserved((1, Step::Do(Command::Begin)));
     steps.push_reserved((1, Step::Do(Command::Commit)));
-    core_after(alloc, LIMITS, steps)
+    core_after(rt, alloc, LIMITS, steps)
 }
 
 /// A reply as one number.
@@ -47,18 +49,22 @@ fn are_right(told: &[SharedReply]) -> bool {
 }
 
 /// The reply to a command of session 1, as one number.
-fn number_of(core: &mut Core<RingPost>, command: Command) -> Result<u64, AllocError> {
-    let reply = reply_to(core, 1, command)?;
+fn number_of<R: Wait>(
+    rt: &R,
+    core: &mut Core<RingPost>,
+    command: Command,
+) -> Result<u64, AllocError> {
+    let reply = reply_to(rt, core, 1, command)?;
     Ok(number(&reply))
 }
 
 #[test]
 fn steps_are_answered(rt: HostRuntime) -> Result<(), Fail> {
-    let (mut core, told) = run(rt.alloc())?;
+    let (mut core, told) = run(&rt)?;
     assert!(rt; are_right(&told), "join, begin, commit");
-    let refused = number_of(&mut core, Command::Commit);
+    let refused = number_of(&rt, &mut core, Command::Commit);
     assert!(rt; refused == Ok(11), "no transaction is open");
-    let begun = number_of(&mut core, Command::Begin);
+    let begun = number_of(&rt, &mut core, Command::Begin);
     assert!(rt; begun == Ok(22), "the second begin");
     let is_open = core.post(1).is_some_and(|post| post.refusals() == 0);
     assert!(rt; is_open, "a post that refused nothing");

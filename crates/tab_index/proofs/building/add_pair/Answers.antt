@@ -65,34 +65,34 @@ returns-then-eq-clause-further c =
 pub returns-clause-next : goal.returns-clause-next
 returns-clause-next c =
     let es = c.args.entries.now in
-    let value = c.pair-2.inside.value.now in
-    let key = c.pair-2.inside.key.now in
+    let value = c.pair.inside.value.now in
+    let key = c.pair.inside.key.now in
     let keys = c.in_ok-insert.ensures.ok ∙ ap₂ (insert_key term_cmp) c.in_ok-try_clone-2.ensures c.new-keys.ensures in
     let made = c.in_ok-push.ensures.items ∙ ap₂ (λ v ks. c.match-last_mut.entries.items ++ (v, ks) ∷ []) c.in_ok-try_clone-3.ensures keys in
     elim c.match-last_mut.branch [
       | in-Some+else-eq w ↦
           let e = w.in-Some.last.now in
           let item = w.in-Some.ensures.item in
-          let other = ap (λ z. same (term e.0) z.0) (c.pair-2.view_is ∙ sym w.pair.view_is) ∙ sym w.eq.ensures ∙ w.if-eq.false in
-          entry_added es.items es.len e c.args.pair.now value key c.push.new.self.items es.ok.0 item.3.0 item.1 c.requires other c.pair-2.view_is
+          let other = ap (λ z. same (term e.0) z.0) (c.pair.view_is ∙ sym c.pair.view_is) ∙ sym w.eq.ensures ∙ w.if-eq.false in
+          entry_added es.items es.len e c.args.pair.now value key c.push.new.self.items es.ok.0 item.3.0 item.1 c.requires other c.pair.view_is
           (made ∙ ap (λ v. v.items ++ (value, key ∷ []) ∷ []) w.entries-is)
       | in_default w ↦
           let none = nil_from_length es.items (omega (arith, w.in_default.ensures.item.3)) in
-          first_added es.items c.args.pair.now value key c.push.new.self.items none c.pair-2.view_is (made ∙ ap (λ v. v.items ++ (value, key ∷ []) ∷ []) w.entries-is)
+          first_added es.items c.args.pair.now value key c.push.new.self.items none c.pair.view_is (made ∙ ap (λ v. v.items ++ (value, key ∷ []) ∷ []) w.entries-is)
     ]
 
 pub returns-clause-further : goal.returns-clause-further
 returns-clause-further c =
     let es = c.args.entries.now in
-    let value = c.pair-2.inside.value.now in
-    let k = c.pair-2.inside.key.now in
+    let value = c.pair.inside.value.now in
+    let k = c.pair.inside.key.now in
     let ms = c.args.further.now.by_key in
     let absent : has_pair es.items value k ≡ false = elim c.match-last_mut.branch [
       | in-Some+else-eq w ↦
           let e = w.in-Some.last.now in
           let item = w.in-Some.ensures.item in
-          let other = ap (λ z. same (term e.0) z.0) (c.pair-2.view_is ∙ sym w.pair.view_is) ∙ sym w.eq.ensures ∙ w.if-eq.false in
-          others_have es.items es.len e _ value k es.ok.0 item.3.0 item.1 c.requires (ap (λ z. z.0) (sym c.pair-2.view_is)) other
+          let other = ap (λ z. same (term e.0) z.0) (c.pair.view_is ∙ sym c.pair.view_is) ∙ sym w.eq.ensures ∙ w.if-eq.false in
+          others_have es.items es.len e _ value k es.ok.0 item.3.0 item.1 c.requires (ap (λ z. z.0) (sym c.pair.view_is)) other
       | in_default w ↦ ap (λ z. has_pair z value k) (nil_from_length es.items (omega (arith, w.in_default.ensures.item.3)))
     ] in
-    subst (λ (q : Pair). IsAdded es.items ms ms q.0 q.1) c.pair-2.view_is (added_first es.items ms value k absent)
+    subst (λ (q : Pair). IsAdded es.items ms ms q.0 q.1) c.pair.view_is (added_first es.items ms value k absent)

@@ -5,4 +5,4 @@ use Rattle.tab_session.proofs.AnsweredLemmas.{answered_by}
 use Rattle.tab_session.proofs.answering.reply_to_command.Goals as goal
 
 pub returns : goal.returns
-returns c outbox = answered_by outbox _ _ _ (DoCommand c.args.command) _ (ap not (sym c.is_one_shot.ensures ∙ c.if-is_one_shot.false)) c.reply_to_step.ensures
+returns g c outbox = answered_by outbox _ _ _ (DoCommand c.args.command) _ (ap not (sym c.is_one_shot.ensures ∙ c.if-is_one_shot.false)) c.reply_to_step.ensures

@@ -10,3 +10,10 @@ invariant_of-self g c = (
       (c.oldest_joined-joined.ensures ∙ ap (λ (b : Running). oldest_joined b.state b.journal.entries) (sym c.self.view_is)) c.fold_oldest.ensures.ok c.fold_oldest.ensures.err,
   c.self.invariant.1,
 )
+
+pub invariant_of-self-2 : goal.invariant_of-self-2
+invariant_of-self-2 g c = (
+  fold_kept c.fold_oldest.result (length c.self.inside.prefix) c.self.inside.core c.self.inside.journal c.fold_oldest.new.self c.oldest_joined-joined.result c.self.invariant.0
+      (c.oldest_joined-joined.ensures ∙ ap (λ (b : Running). oldest_joined b.state b.journal.entries) (sym c.self.view_is)) c.fold_oldest.ensures.ok c.fold_oldest.ensures.err,
+  c.self.invariant.1,
+)

@@ -1,7 +1,6 @@
-use Rattle.std.proofs.Common.{length, refl, subst, sym}
+use Rattle.std.proofs.Common.{length, subst, sym}
 use Rattle.tab_model.specs.State.{State, new}
 use Rattle.tab_journal.specs.Journals.{JournalView}
-use Rattle.tab_book.specs.Logs.{IsWholeRun}
 use Rattle.tab_book.specs.Running.{Holds}
 use Rattle.tab_book.proofs.Keeping.{new_holds}
 use Rattle.tab_book.proofs.Logging.{new_run}

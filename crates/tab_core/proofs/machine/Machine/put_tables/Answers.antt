@@ -33,8 +33,8 @@ returns g c =
     λ j. record { reply = c.new.ensures j; entry = Some (entry.Changed (c.into_value.ensures j) (c.new-2.ensures.items j)) } in
     let busy = ap (λ t. list_any (is_in t) (all_of c.args.self.now.ages)) (sym c.table_of.ensures) ∙ sym c.busy.ensures ∙ c.if-busy.false in
     record {
-      done = λ k. (answering.schema_exit (parts_of c.args.self.now) k c.args.asked.value c.requires.done.0 busy (sym (c.has_room.ensures) ∙ c.if-not-has_room.false) c.args.catalog c.requires.done.1 _ told).0;
-      agree = λ k. (answering.schema_exit (parts_of c.args.self.now) k c.args.asked.value c.requires.done.0 busy (sym (c.has_room.ensures) ∙ c.if-not-has_room.false) c.args.catalog c.requires.done.1 _ told).1;
+      done = λ k. (answering.schema_exit (parts_of c.args.self.now) k c.args.asked.value c.requires.done.0 busy (sym (c.has_room.ensures) ∙ c.if-not-has_room.false) c.replace.new.dest (c.replace.ensures.after ∙ c.requires.done.1) _ told).0;
+      agree = λ k. (answering.schema_exit (parts_of c.args.self.now) k c.args.asked.value c.requires.done.0 busy (sym (c.has_room.ensures) ∙ c.if-not-has_room.false) c.replace.new.dest (c.replace.ensures.after ∙ c.requires.done.1) _ told).1;
       same = refl;
       err = tt;
     }

@@ -1,6 +1,6 @@
-use Rattle.std.proofs.Common.{◌≡◌, ◌≤◌, ap, sym, ◌∙◌, subst, arith, length}
+use Rattle.std.proofs.Common.{arith}
 use Rattle.tab_core.specs.Parts.{parts_of}
-use Rattle.tab_core.proofs.ReadyLemmas.{AreListed, listed_more, listed_none, all_ready}
+use Rattle.tab_core.proofs.ReadyLemmas.{listed_more, listed_none, all_ready}
 use Rattle.tab_core.proofs.machine.Machine.ready.Goals as goal
 
 pub loop-place-preserved-then-not-is_ready : goal.loop-place-preserved-then-not-is_ready
