@@ -55,7 +55,7 @@ use Rattle.tab_locks.specs.contracts.tied_keys.TiedKeys as tied_keys
 use Rattle.tab_locks.proofs.holders.Holders.TheSendSync as holders_marks
 use Rattle.tab_waitdie.specs.contracts.ages.Ages as ages
 use Rattle.tab_core.specs.contracts.machine.Machine as machine
-use Rattle.tab_subs.specs.contracts.transaction.Transaction as transaction
+use Rattle.tab_core.specs.contracts.transaction.Transaction as transaction
 use Rattle.tab_subs.specs.contracts.session.Session as session
 use Rattle.tab_subs.specs.contracts.session.Session.TheInside as session_inside
 use Rattle.tab_subs.specs.contracts.subs.Subs as subs
@@ -245,17 +245,17 @@ journal-send : IsSend journal.the_row
 journal-send = search (parts, base-send, entry-send, buffer_marks.the_send, frees, heap_send) depth 40
 
 module _ (P : RattleType) (g : Ghosts P.Denot) where
-  session-send : IsSend P → IsSend (session.the_row P g)
+  session-send : IsSend P → IsSend (session.the_row P transaction.the_row g)
   session-send p =
       view_send _ _ _ _ _ (
-      declared_send (session_inside.the_type P g) (
+      declared_send (session_inside.the_type P transaction.the_row g) (
         search parts,
         (search (parts, transaction-send) depth 20, (search (parts, watched_marks.the_send) depth 20, (search parts depth 20, (search (parts, p), tt)))),
       )
       )
 
-  subs-send : IsSend P → IsSend (subs.the_row P g)
-  subs-send p = view_send _ _ _ _ _ (declared_send (subs_inside.the_type P g) (search (parts, session-send p) depth 20, tt))
+  subs-send : IsSend P → IsSend (subs.the_row P transaction.the_row g)
+  subs-send p = view_send _ _ _ _ _ (declared_send (subs_inside.the_type P transaction.the_row g) (search (parts, session-send p) depth 20, tt))
 
   machine-send : IsSend P → IsSend (machine.the_row P g)
   machine-send p =
@@ -264,7 +264,7 @@ module _ (P : RattleType) (g : Ghosts P.Denot) where
         (
           search (parts, catalog-send),
           (
-            as_row_send (subs.the_field P g) (subs-send p),
+            as_row_send (subs.the_field P transaction.the_row g) (subs-send p),
             (
               search (parts, ages-send),
               (search (parts, request-send) depth 20, (search parts, (search parts, (search parts, (search (parts, limits_marks.the_send), (search (parts, catalog-send) depth 20, tt)))))),

@@ -40,10 +40,18 @@ pub struct Book<H: Host> {
 }
 
 /// What the steps replaced, whose drop may take long.
-#[derive(Drop)]
 pub struct Replaced {
     tables: Option<Catalog>,
     folded: Option<Folded>,
+}
+
+// A derived Drop would be expanded, field by field, at each exit of each caller.
+impl Drop for Replaced {
+    fn drop(self) {
+        let Replaced { tables, folded } = self;
+        drop(tables);
+        drop(folded);
+    }
 }
 
 impl<H: Host> Model for Book<H> {

@@ -26,7 +26,7 @@ use Rattle.tab_model.proofs.StepCases.{join_if, command_if}
 use Rattle.tab_model.proofs.ReachedWaits.{held_pushed}
 use Rattle.tab_model.proofs.SessionLists.{eq_true, itself}
 use Rattle.tab_txstore.proofs.FitsLemmas.{updates_survive}
-use Rattle.tab_subs.specs.declared.transaction.Transaction as kept
+use Rattle.tab_core.specs.declared.transaction.Transaction as kept
 use Rattle.tab_core.specs.declared.queue.Request as request
 use Rattle.tab_core.specs.declared.step.Stepped.{Stepped}
 use Rattle.tab_core.specs.Steps.{StepsTo}
@@ -40,7 +40,8 @@ use Rattle.tab_core.proofs.Keeping as keep
 use Rattle.tab_core.proofs.Keeping.{ended, with_transaction, Leaves, leaves, kept_step, the_session}
 use Rattle.tab_core.proofs.CommitLemmas as committing
 use Rattle.tab_subs.specs.Subscribers as subs
-use Rattle.tab_subs.specs.Subscribers.{Subscriber, AllBelow, IsHeldAt, at, nobody, numbers}
+use Rattle.tab_subs.specs.Subscribers.{AllBelow, IsHeldAt, at, nobody, numbers}
+use Rattle.tab_core.specs.Joined.{Subscriber}
 use Rattle.tab_core.specs.Parts.{Parts, queued_of, session_of, state_of, transaction_in, transaction_of}
 
 pub without_entry : (σ : State) (r : Reply) (s : Stepped) → s ≡ record { reply = r; entry = None } → step_without_entry σ r ≡ record { state = σ; reply = s.reply; entry = s.entry }

@@ -12,7 +12,8 @@ use Rattle.tab_model.specs.Operations.{table_of_change, change_catalog}
 use Rattle.tab_model.specs.Slices.{batch_for, as_batch, shape_at}
 use Rattle.tab_model.specs.State.{level_in}
 use Rattle.tab_model.specs.Catalogs.{Catalog}
-use Rattle.tab_subs.specs.Subscribers.{Subscriber, has_watcher}
+use Rattle.tab_subs.specs.Subscribers.{has_watcher}
+use Rattle.tab_core.specs.Joined.{Subscriber}
 use Rattle.tab_core.specs.Owing.{is_watched, are_watched}
 
 no_level : (l : Option Level) → is_some l ≡ false → l ≡ None

@@ -19,13 +19,14 @@ use Rattle.tab_model.proofs.StepsBySession.{held_none}
 use Rattle.tab_model.proofs.SurvivorsRight.{survivors_are}
 use Rattle.tab_txstore.specs.Stores.{Fits}
 use Rattle.tab_txstore.proofs.FitsLemmas.{fits_stays, fits_schema, updates_survive}
-use Rattle.tab_subs.specs.declared.transaction.Transaction as kept
+use Rattle.tab_core.specs.declared.transaction.Transaction as kept
 use Rattle.tab_core.specs.Outermost.{after_commit}
 use Rattle.tab_core.specs.Kept.{opens, count_open, Agree, IsKept}
 use Rattle.tab_core.proofs.Places.{at_of}
 use Rattle.tab_core.proofs.Keeping as keep
 use Rattle.tab_core.proofs.Keeping.{ended, the_session}
-use Rattle.tab_subs.specs.Subscribers.{Subscriber, IsHeldAt, at}
+use Rattle.tab_subs.specs.Subscribers.{IsHeldAt, at}
+use Rattle.tab_core.specs.Joined.{Subscriber}
 use Rattle.tab_core.specs.Parts.{Parts, queued_of, session_of, state_of, transaction_in, transaction_of}
 
 -- ---- an outermost commit

@@ -8,7 +8,9 @@ use Rattle.tab_model.specs.State.{Watch, Session, session_at, without_watch}
 use Rattle.tab_model.specs.Outcome.{is_empty, with_items, with_changed, with_transaction, after_overflow, after_put, without_deleted}
 use Rattle.tab_model.specs.Run.{IsSplitByOverflow}
 use Rattle.tab_model.proofs.Splits.{IsSplit, split_fits}
-use Rattle.tab_subs.specs.Subscribers.{Subscriber, given, overflowed}
+use Rattle.tab_subs.specs.Subscribers as subs
+use Rattle.tab_subs.specs.Subscribers.{given, overflowed}
+use Rattle.tab_core.specs.Joined.{Subscriber}
 use Rattle.tab_subs.specs.Deliveries.{first_of, rest_of, unwatched, given_all, IsDecided, AreDecided, joined_if, those_in}
 use Rattle.tab_core.specs.Parts.{session_of}
 use Rattle.tab_core.proofs.Keeping.{SameKeys}
@@ -22,14 +24,14 @@ given_keys n over items t s = at_table t
     at_table : (u : Option (List ℕ)) → (s.number ≡ (given n over items (unwatched u s)).number) × (s.transaction ≡ (given n over items (unwatched u s)).transaction)
     at_table None = by (has_session over s.number)
       where
-        by : (d : Bool) → (s.number ≡ Subscriber.number (if d then overflowed n s else record s { outbox = with_items s.outbox items }))
-            × (s.transaction ≡ Subscriber.transaction (if d then overflowed n s else record s { outbox = with_items s.outbox items }))
+        by : (d : Bool) → (s.number ≡ subs.Subscriber.number (if d then overflowed n s else record s { outbox = with_items s.outbox items }))
+            × (s.transaction ≡ subs.Subscriber.transaction (if d then overflowed n s else record s { outbox = with_items s.outbox items }))
         by true = (refl, refl)
         by false = (refl, refl)
     at_table (Some v) = by (has_session over s.number)
       where
-        by : (d : Bool) → (s.number ≡ Subscriber.number (if d then overflowed n (unwatched (Some v) s) else record s { watching = without_watch s.watching v; outbox = with_items s.outbox items }))
-            × (s.transaction ≡ Subscriber.transaction (if d then overflowed n (unwatched (Some v) s) else record s { watching = without_watch s.watching v; outbox = with_items s.outbox items }))
+        by : (d : Bool) → (s.number ≡ subs.Subscriber.number (if d then overflowed n (unwatched (Some v) s) else record s { watching = without_watch s.watching v; outbox = with_items s.outbox items }))
+            × (s.transaction ≡ subs.Subscriber.transaction (if d then overflowed n (unwatched (Some v) s) else record s { watching = without_watch s.watching v; outbox = with_items s.outbox items }))
         by true = (refl, refl)
         by false = (refl, refl)
 

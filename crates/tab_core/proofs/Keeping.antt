@@ -28,13 +28,14 @@ use Rattle.tab_model.specs.Reached.{IsRising}
 use Rattle.tab_model.proofs.ReachedWaits.{step_rising, Match, match_of, without_match}
 use Rattle.tab_txstore.specs.Stores.{Fits}
 use Rattle.tab_txstore.proofs.FitsLemmas.{depth_shown}
-use Rattle.tab_subs.specs.declared.transaction.Transaction as kept
+use Rattle.tab_core.specs.declared.transaction.Transaction as kept
 use Rattle.tab_waitdie.proofs.Places.{map_filtered}
 use Rattle.tab_core.specs.declared.queue.Request as request
 use Rattle.tab_core.specs.Kept.{opens, count_open, Agree, IsKept}
 use Rattle.tab_core.proofs.HeldLocks.{same_without, held_same, held_more, held_none_left, held_gone}
 use Rattle.tab_core.proofs.Places.{at_of, change_of, counts}
-use Rattle.tab_subs.specs.Subscribers.{Subscriber, IsHeldAt, at, nobody}
+use Rattle.tab_subs.specs.Subscribers.{IsHeldAt, at, nobody}
+use Rattle.tab_core.specs.Joined.{Subscriber}
 use Rattle.tab_core.specs.Parts.{Parts, queued_of, session_of, state_of, transaction_in, transaction_of}
 
 -- ---- what is answered

@@ -24,7 +24,7 @@ use Rattle.tab_model.proofs.StepCases.{command_if, commit_at, open_child, open_l
 use Rattle.tab_model.proofs.StepsBySession.{lock_of_move, locks-more}
 use Rattle.tab_txstore.specs.Stores.{no_store, store_next, committed_for, Fits}
 use Rattle.tab_txstore.proofs.FitsLemmas.{fits_new, fits_next}
-use Rattle.tab_subs.specs.declared.transaction.Transaction as kept
+use Rattle.tab_core.specs.declared.transaction.Transaction as kept
 use Rattle.tab_core.specs.declared.queue.Request as request
 use Rattle.tab_core.specs.Works.{with_store, forgotten_if, joined, UndoesIf, Undoes, NestsIf, NestsTo}
 use Rattle.tab_core.specs.Kept.{opens, count_open, Agree, IsKept}
@@ -35,7 +35,8 @@ use Rattle.tab_core.proofs.Keeping.{ended, with_transaction, the_session, none_w
 use Rattle.tab_core.proofs.Numbers.{le_true}
 use Rattle.tab_model.specs.declared.data.Limit.TheVariants as limit
 use Rattle.tab_core.proofs.Moving.{empty_counts, moved, moved_if, moves, without_twice}
-use Rattle.tab_subs.specs.Subscribers.{Subscriber, IsHeldAt, at, nobody}
+use Rattle.tab_subs.specs.Subscribers.{IsHeldAt, at, nobody}
+use Rattle.tab_core.specs.Joined.{Subscriber}
 use Rattle.tab_core.specs.Parts.{Parts, queued_of, session_of, state_of, transaction_in, transaction_of}
 
 -- an age is kept through all moves

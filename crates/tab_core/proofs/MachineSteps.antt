@@ -25,7 +25,7 @@ use Rattle.tab_model.specs.State.{Outbox, Transaction, Session, State, ages_of, 
 use Rattle.tab_model.specs.Catalogs.{Table, find}
 use Rattle.tab_model.proofs.RefusalLaws.{move_answers}
 use Rattle.tab_core.specs.declared.queue.Request as request
-use Rattle.tab_subs.specs.declared.transaction.Transaction as kept
+use Rattle.tab_core.specs.declared.transaction.Transaction as kept
 use Rattle.tab_core.specs.Kept.{IsKept}
 use Rattle.tab_core.specs.Steps.{is_commit, is_told_for_none, tells_for_none}
 use Rattle.tab_core.specs.Works.{has_level}
@@ -34,7 +34,8 @@ use Rattle.tab_core.proofs.Keeping as keep
 use Rattle.tab_core.proofs.Keeping.{the_session}
 use Rattle.tab_core.proofs.LevelEnds as ending
 use Rattle.tab_core.proofs.OperatingLemmas as operating
-use Rattle.tab_subs.specs.Subscribers.{Subscriber, IsHeldAt, at, nobody}
+use Rattle.tab_subs.specs.Subscribers.{IsHeldAt, at, nobody}
+use Rattle.tab_core.specs.Joined.{Subscriber}
 use Rattle.tab_core.specs.Parts.{Parts, queued_of, session_of, state_of, transaction_of}
 
 pub both_ways : {P : Type 0} (a b : Bool) → (a || b) ≡ true → (a ≡ true → P) → (b ≡ true → P) → P

@@ -25,7 +25,8 @@ use Rattle.tab_model.proofs.SessionLists.{found, itself}
 use Rattle.tab_outbox.specs.declared.mailbox.Met.{Met}
 use Rattle.tab_outbox.specs.Mailboxes.{Meets}
 use Rattle.tab_subs.specs.Subscribers as subs
-use Rattle.tab_subs.specs.Subscribers.{Subscriber, at, change, taken_from, is_full, Marks}
+use Rattle.tab_subs.specs.Subscribers.{at, change, taken_from, is_full, Marks}
+use Rattle.tab_core.specs.Joined.{Subscriber}
 use Rattle.tab_subs.specs.declared.answers.Taken.{Taken}
 use Rattle.tab_subs.specs.declared.answers.Taken.TheVariants as taken
 use Rattle.tab_subs.specs.declared.answers.Marked.{Marked}
@@ -63,12 +64,12 @@ module _ (m : Parts) (n : ℕ) (b : Subscriber) (here : at m.sessions n ≡ Some
   gives [] None e = ap (λ cs. step_without_entry (state_of (record m { sessions = cs })) reply.Empty) (sym (change_itself m.sessions b (ap (at m.sessions) is_n ∙ here)))
   gives [] (Some c) e = ap (λ τ. step_without_entry τ (reply.Overflow c)) (changed m (record b { overflow = None }))
 
-  take_number : (items : List Item) (l : Option ℕ) → Subscriber.number (subs.give b items l).0 ≡ b.number
+  take_number : (items : List Item) (l : Option ℕ) → subs.Subscriber.number (subs.give b items l).0 ≡ b.number
   take_number (x ∷ xs) l = refl
   take_number [] None = refl
   take_number [] (Some c) = refl
 
-  take_transaction : (items : List Item) (l : Option ℕ) → b.transaction ≡ Subscriber.transaction (subs.give b items l).0
+  take_transaction : (items : List Item) (l : Option ℕ) → b.transaction ≡ subs.Subscriber.transaction (subs.give b items l).0
   take_transaction (x ∷ xs) l = refl
   take_transaction [] None = refl
   take_transaction [] (Some c) = refl

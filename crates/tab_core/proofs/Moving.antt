@@ -26,7 +26,7 @@ use Rattle.tab_model.proofs.SurvivorsRight.{reply_tells}
 use Rattle.tab_model.proofs.ReachedWaits.{aged_append}
 use Rattle.tab_txstore.specs.Stores.{Store, store_next, Fits}
 use Rattle.tab_txstore.proofs.FitsLemmas.{fits_next}
-use Rattle.tab_subs.specs.declared.transaction.Transaction as kept
+use Rattle.tab_core.specs.declared.transaction.Transaction as kept
 use Rattle.tab_core.specs.declared.queue.Request as request
 use Rattle.tab_core.specs.declared.operating.Worked.{Worked}
 use Rattle.tab_core.specs.Works.{with_store, Works}
@@ -34,7 +34,8 @@ use Rattle.tab_core.specs.Kept.{opens, Agree, IsKept}
 use Rattle.tab_core.proofs.HeldLocks.{any_without}
 use Rattle.tab_core.proofs.Keeping as keep
 use Rattle.tab_core.proofs.Keeping.{ended, the_session, state_after, with_transaction}
-use Rattle.tab_subs.specs.Subscribers.{Subscriber, IsHeldAt}
+use Rattle.tab_subs.specs.Subscribers.{IsHeldAt}
+use Rattle.tab_core.specs.Joined.{Subscriber}
 use Rattle.tab_core.specs.Parts.{Parts, queued_of, session_of, state_of, transaction_of}
 
 pub empty_counts : {A : Type 0} (xs : List A) → is_empty xs ≡ (length xs == 0)

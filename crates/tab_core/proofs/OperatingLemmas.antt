@@ -23,7 +23,7 @@ use Rattle.tab_txstore.specs.Stores.{store_next, no_store, Fits}
 use Rattle.tab_txstore.proofs.FitsLemmas.{fits_new}
 use Rattle.tab_waitdie.specs.declared.ages.LockDecision as waitdie
 use Rattle.tab_waitdie.specs.Decisions as waitdie_of
-use Rattle.tab_subs.specs.declared.transaction.Transaction as kept
+use Rattle.tab_core.specs.declared.transaction.Transaction as kept
 use Rattle.tab_core.specs.declared.queue.Request as request
 use Rattle.tab_core.specs.declared.operating.Worked.{Worked}
 use Rattle.tab_core.specs.Works.{Works}
@@ -35,7 +35,8 @@ use Rattle.tab_core.proofs.Keeping.{with_transaction, the_session, state_after, 
 use Rattle.tab_core.proofs.Moving as moving
 use Rattle.tab_core.proofs.Moving.{moved, moved_if, without_twice}
 use Rattle.tab_core.proofs.LevelEnds.{over_agrees}
-use Rattle.tab_subs.specs.Subscribers.{Subscriber, IsHeldAt}
+use Rattle.tab_subs.specs.Subscribers.{IsHeldAt}
+use Rattle.tab_core.specs.Joined.{Subscriber}
 use Rattle.tab_core.specs.Parts.{Parts, queued_of, session_of, state_of, transaction_of}
 
 queued_push : (qs : List request.Request) (q : request.Request) → map queued_of (qs ++ q ∷ []) ≡ map queued_of qs ++ queued_of q ∷ []

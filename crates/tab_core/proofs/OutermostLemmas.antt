@@ -8,7 +8,7 @@ use Rattle.tab_model.specs.State as plain
 use Rattle.tab_model.specs.State.{State, Transaction, transaction_at, is_waiting, mid_of}
 use Rattle.tab_model.specs.Outcome.{is_empty}
 use Rattle.tab_txstore.proofs.FitsLemmas.{updates_survive}
-use Rattle.tab_subs.specs.declared.transaction.Transaction as kept
+use Rattle.tab_core.specs.declared.transaction.Transaction as kept
 use Rattle.tab_core.specs.Kept.{IsKept}
 use Rattle.tab_core.specs.Outermost.{outermost, outermost_of, ending_of, CommitsBy}
 use Rattle.tab_core.specs.declared.step.Stepped.{Stepped}
@@ -20,7 +20,8 @@ use Rattle.tab_core.proofs.Places.{at_of}
 use Rattle.tab_core.proofs.Keeping as keep
 use Rattle.tab_core.proofs.Keeping.{the_session}
 use Rattle.tab_core.proofs.LevelEnds as ending
-use Rattle.tab_subs.specs.Subscribers.{Subscriber, IsHeldAt, at}
+use Rattle.tab_subs.specs.Subscribers.{IsHeldAt, at}
+use Rattle.tab_core.specs.Joined.{Subscriber}
 use Rattle.tab_core.specs.Parts.{Parts, session_of, state_of, transaction_of}
 
 none_if : (σ : State) (b : Bool) (o : Option Transaction) → outermost_of σ o ≡ None → (if b then None else outermost_of σ o) ≡ None

@@ -26,7 +26,7 @@ use Rattle.tab_model.proofs.StepCases.{commit_at, command_if}
 use Rattle.tab_model.specs.Run.{IsSplitByOverflow, put_ask, put_commit, put_schema}
 use Rattle.tab_model.proofs.Splits.{none_handed}
 use Rattle.tab_model.proofs.SessionLists.{found}
-use Rattle.tab_subs.specs.Subscribers.{Subscriber}
+use Rattle.tab_core.specs.Joined.{Subscriber}
 use Rattle.tab_subs.specs.Deliveries.{Owed, Delivers, AreDecided, given_all}
 use Rattle.tab_core.specs.declared.step.Stepped.{Stepped}
 use Rattle.tab_core.specs.Outermost.{outermost, outermost_of, ending_of, after_commit, Commits, CommitsBy}

@@ -6,8 +6,10 @@ use Rattle.tab_model.specs.State as plain
 use Rattle.tab_model.specs.Outcome.{with_changed, without_session}
 use Rattle.tab_model.proofs.SessionLists.{eq_true, itself, other_number}
 use Rattle.tab_waitdie.proofs.Places.{map_filtered}
+use Rattle.tab_core.specs.declared.transaction.Transaction as kept
 use Rattle.tab_core.specs.Kept.{opens, count_open}
-use Rattle.tab_subs.specs.Subscribers.{Subscriber, at, change, without}
+use Rattle.tab_subs.specs.Subscribers.{at, change, without}
+use Rattle.tab_core.specs.Joined.{Subscriber}
 use Rattle.tab_core.specs.Parts.{session_of}
 
 -- ---- the same of the state's sessions
@@ -34,7 +36,7 @@ without_filtered n ss = map_filtered session_of (λ s. not (s.number == n)) ss
 pub at_filtered : (n m : ℕ) (ss : List Subscriber) → at (filter (λ s. not (s.number == n)) ss) m ≡ (if m == n then None else at ss m)
 at_filtered n m [] = by (m == n)
   where
-    by : (c : Bool) → None ≡ (if c then None else at [] m)
+    by : (c : Bool) → None ≡ (if c then None else at {T = kept.Transaction} [] m)
     by true = refl
     by false = refl
 at_filtered n m (x ∷ ss) = by (x.number == n) (x.number == m) (m == n) refl refl refl (at_filtered n m ss)

@@ -10,8 +10,9 @@ use Rattle.tab_model.specs.Log.{has_session}
 use Rattle.tab_model.specs.State as plain
 use Rattle.tab_model.specs.State.{Queued, Transaction, ages_of, request_in}
 use Rattle.tab_model.proofs.ReachedWaits.{request_age}
-use Rattle.tab_subs.specs.declared.transaction.Transaction as kept
-use Rattle.tab_subs.specs.Subscribers.{Subscriber, IsHeldAt, at, nobody}
+use Rattle.tab_core.specs.declared.transaction.Transaction as kept
+use Rattle.tab_subs.specs.Subscribers.{IsHeldAt, at, nobody}
+use Rattle.tab_core.specs.Joined.{Subscriber}
 use Rattle.tab_subs.proofs.Places.{stands}
 use Rattle.tab_core.specs.declared.queue.Request as request
 use Rattle.tab_core.specs.Kept.{IsKept}

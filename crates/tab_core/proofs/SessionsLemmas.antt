@@ -4,7 +4,8 @@ use Rattle.std.specs.Prelude.{◌==◌, if◌then◌else◌, is_some, map, optio
 use Rattle.tab_model.specs.State.{Session, State, session_at}
 use Rattle.tab_model.specs.Outcome.{Ask, outcome, step_of, with_session}
 use Rattle.tab_model.proofs.SessionLists.{eq_true, found}
-use Rattle.tab_subs.specs.Subscribers.{Subscriber, IsHeldAt, at, change, nobody}
+use Rattle.tab_subs.specs.Subscribers.{IsHeldAt, at, change, nobody}
+use Rattle.tab_core.specs.Joined.{Subscriber}
 use Rattle.tab_core.specs.Parts.{Parts, session_of, state_of}
 use Rattle.tab_core.proofs.Keeping.{SameKeys}
 use Rattle.tab_core.proofs.Places.{at_of, change_of}

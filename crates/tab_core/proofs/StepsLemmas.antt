@@ -11,7 +11,7 @@ use Rattle.tab_model.specs.Reached.{IsRising}
 use Rattle.tab_model.specs.Outcome.{Ask}
 use Rattle.tab_model.specs.Run.{IsSplitByOverflow, put_ask, put_command}
 use Rattle.tab_model.proofs.Splits.{none_handed}
-use Rattle.tab_subs.specs.Subscribers.{Subscriber}
+use Rattle.tab_core.specs.Joined.{Subscriber}
 use Rattle.tab_core.specs.declared.step.Stepped.{Stepped}
 use Rattle.tab_core.specs.Parts.{Parts, state_of}
 use Rattle.tab_core.specs.Kept.{IsKept}

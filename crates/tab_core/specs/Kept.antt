@@ -4,8 +4,9 @@ use Rattle.tab_locks.specs.Members.{SameMembers}
 use Rattle.tab_model.specs.Ages.{Rises}
 use Rattle.tab_model.specs.State.{locks_held_in, locks_queued_in, ages_of, transaction_at, OwnedBy, IsSound}
 use Rattle.tab_txstore.specs.Stores.{Fits}
-use Rattle.tab_subs.specs.declared.transaction.Transaction as kept
-use Rattle.tab_subs.specs.Subscribers.{Subscriber, at}
+use Rattle.tab_core.specs.declared.transaction.Transaction as kept
+use Rattle.tab_subs.specs.Subscribers.{at}
+use Rattle.tab_core.specs.Joined.{Subscriber}
 use Rattle.tab_core.specs.Parts.{Parts, queued_of, session_of, state_of, transaction_in}
 
 -- how many transactions are open there: one or none

@@ -10,7 +10,8 @@ use Rattle.tab_model.specs.Operations.{table_of_change}
 use Rattle.tab_model.specs.State.{State, Transaction}
 use Rattle.tab_model.specs.Catalogs.{Catalog}
 use Rattle.tab_core.specs.Outermost.{outermost}
-use Rattle.tab_subs.specs.Subscribers.{Subscriber, has_watcher}
+use Rattle.tab_subs.specs.Subscribers.{has_watcher}
+use Rattle.tab_core.specs.Joined.{Subscriber}
 use Rattle.tab_core.specs.declared.committing.Updated.{Updated}
 
 -- some session watches the event's table

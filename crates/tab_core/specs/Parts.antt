@@ -5,8 +5,8 @@ use Rattle.tab_model.specs.declared.data.Limits.{Limits}
 use Rattle.tab_model.specs.Ages.{Ages}
 use Rattle.tab_model.specs.Catalogs.{Catalog}
 use Rattle.tab_model.specs.State.{Transaction, Session, Queued, State}
-use Rattle.tab_subs.specs.declared.transaction.Transaction as kept
-use Rattle.tab_subs.specs.Subscribers.{Subscriber}
+use Rattle.tab_core.specs.declared.transaction.Transaction as kept
+use Rattle.tab_core.specs.Joined.{Subscriber}
 use Rattle.tab_core.specs.declared.queue.Request as request
 use Rattle.tab_core.specs.declared.machine.Machine.{Machine}
 

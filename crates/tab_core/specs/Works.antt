@@ -14,7 +14,7 @@ use Rattle.tab_model.specs.Events.{is_failure}
 use Rattle.tab_model.specs.Operations.{table_of, answer}
 use Rattle.tab_model.specs.Catalogs.{Catalog, find, IsOrderedCatalog}
 use Rattle.tab_txstore.specs.Stores.{Store, no_store, store_next, Fits}
-use Rattle.tab_subs.specs.declared.transaction.Transaction as kept
+use Rattle.tab_core.specs.declared.transaction.Transaction as kept
 use Rattle.tab_core.specs.declared.operating.Worked.{Worked}
 use Rattle.tab_core.specs.declared.step.Stepped.{Stepped}
 

@@ -19,6 +19,7 @@ use crate::Core;
 use crate::ending::Ending;
 use crate::machine::Machine;
 use crate::step::{Stepped, with_overflowed};
+use crate::transaction::Transaction;
 use std::alloc::{AllocError, Global};
 use std::sync::Wait;
 use tab_model::{Event, Reply, Schema};
@@ -219,7 +220,7 @@ fn updated_by<P: Post + Drop>(
 /// Returns whether someone watches a table of the changes.
 fn are_watched<P: Post + Drop>(
     alloc: Global,
-    subs: &Subs<P>,
+    subs: &Subs<P, Transaction>,
     updates: &[Update],
 ) -> Result<bool, AllocError>
     ensures { IfOk result (λ are. are ≡ are_watched_by subs.now updates.now) }
@@ -236,7 +237,7 @@ fn are_watched<P: Post + Drop>(
 fn changed_tables<P: Post + Drop>(
     alloc: Global,
     tables: &Catalog,
-    subs: &Subs<P>,
+    subs: &Subs<P, Transaction>,
     ending: &Ending<'_>,
 ) -> Result<Updated, AllocError>
     ensures { IfOk result (Updates tables.now subs.now ending.now.age ending.now.updates.now) }
@@ -259,7 +260,7 @@ fn changed_tables<P: Post + Drop>(
 fn only_event<P: Post + Drop>(
     alloc: Global,
     tables: &Catalog,
-    subs: &Subs<P>,
+    subs: &Subs<P, Transaction>,
     age: u64,
     update: &Update,
 ) -> Result<Updated, AllocError>
@@ -279,7 +280,7 @@ fn push_watched<P: Post + Drop>(
     alloc: Global,
     events: &mut Vec<Event>,
     changing: &Changing,
-    subs: &Subs<P>,
+    subs: &Subs<P, Transaction>,
     age: u64,
     update: &Update,
 ) -> Result<(), AllocError>

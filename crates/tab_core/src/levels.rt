@@ -17,11 +17,11 @@ ghost use Rattle.tab_core.specs.Works.{Nests, NestsTo, has_level, Undoes, undone
 use crate::machine::Machine;
 use crate::operating::end_if;
 use crate::step::Stepped;
+use crate::transaction::Transaction;
 use std::alloc::{AllocError, Global};
 use std::sync::Wait;
 use tab_model::{Entry, Limit, Limits, Reply, Sessions, SharedReply};
 use tab_outbox::Post;
-use tab_subs::Transaction;
 use tab_tables::{Catalog, Lender};
 use tab_term::Term;
 use tab_txstore::{Finished, TxStore};

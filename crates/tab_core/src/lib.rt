@@ -30,6 +30,7 @@ mod seen;
 mod sessions;
 mod step;
 mod subscribing;
+mod transaction;
 
 use crate::machine::Machine;
 pub use machine::SESSIONS;

@@ -12,6 +12,7 @@ ghost use Rattle.tab_core.specs.Kept.{IsKept};
 
 use crate::queue::{Request, find};
 use crate::step::Stepped;
+use crate::transaction::Transaction;
 use std::alloc::{AllocError, Global};
 use tab_model::{Command, Limits, Reply};
 use tab_outbox::Post;
@@ -29,7 +30,7 @@ pub(crate) struct Machine<P: Post> {
     /// The tables as they are committed.
     pub catalog: Catalog,
     /// The joined sessions, in the order of their numbers.
-    pub sessions: Subs<P>,
+    pub sessions: Subs<P, Transaction>,
     pub(crate) ages: Ages,
     pub(crate) queue: Vec<Request>,
     // The number of outermost transactions that have begun.
@@ -43,7 +44,7 @@ pub(crate) struct Machine<P: Post> {
     pub replaced: Option<Catalog>,
 }
 
-// A derived Drop would be taken apart, field by field, at each exit of each caller.
+// A derived Drop would be expanded, field by field, at each exit of each caller.
 impl<P: Post + Drop> Drop for Machine<P> {
     fn drop(self) {
         let Machine {

@@ -14,7 +14,7 @@ pub(crate) struct Request {
     pub operation: Operation,
 }
 
-// A derived Drop would be taken apart, variant by variant, at each exit of each caller.
+// A derived Drop would be expanded, variant by variant, at each exit of each caller.
 impl Drop for Request {
     fn drop(self) {
         let Request {

@@ -3,7 +3,7 @@
 ghost use Rattle.std.specs.Prelude.{◌≡◌, List, IfOk, OnErr, None};
 ghost use Rattle.tab_model.specs.Outcome.{has_room};
 ghost use Rattle.tab_model.specs.Schemas.{schema_effect, schema_refusal, table_of_schema};
-ghost use Rattle.tab_subs.specs.Subscribers.{Subscriber};
+ghost use Rattle.tab_core.specs.Joined.{Subscriber};
 ghost use Rattle.tab_core.specs.Parts.{parts_of, state_with};
 ghost use Rattle.tab_core.specs.Kept.{Agree, IsKept};
 ghost use Rattle.tab_core.specs.Redefining.{Redefines};

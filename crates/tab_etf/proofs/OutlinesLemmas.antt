@@ -3,7 +3,7 @@ use Rattle.std.proofs.Common.{◌≡◌, ◌≤◌, ℕ, ◌+◌, List, [], ◌�
 use Rattle.std.proofs.lemmas.List.{append-nil}
 use Rattle.tab_term.specs.Data.{PlainTerm, tuple, none, one_more, pair, triple}
 use Rattle.tab_term.specs.Canon.{canon}
-use Rattle.tab_lists.specs.EventTerms.{five}
+use Rattle.tab_term.specs.Tuples.{five}
 use Rattle.tab_etf.proofs.CanonLemmas as is
 use Rattle.tab_etf.specs.declared.outline.Leaf.{Leaf}
 use Rattle.tab_etf.specs.declared.outline.Leaf.TheVariants as leaf

@@ -4,7 +4,8 @@ ghost use Rattle.std.specs.Prelude.{◌≡◌, ◌≤◌, ◌+◌, ◌++◌, ◌
 ghost use Rattle.tab_term.specs.Canon.{canon, canons};
 ghost use Rattle.tab_term.specs.Data.{atom, int, list, triple};
 ghost use Rattle.tab_term.specs.View.{term};
-ghost use Rattle.tab_lists.specs.EventTerms.{event_body, event_term, event_terms, five, tag_word, tid};
+ghost use Rattle.tab_lists.specs.EventTerms.{event_body, event_term, event_terms, tag_word};
+ghost use Rattle.tab_term.specs.Tuples.{five, tid};
 ghost use Rattle.tab_etf.specs.Writing.{Writes};
 
 use crate::answers::{put_word, word_len};

@@ -42,7 +42,7 @@ impl Model for Mirror {
     ghost invariant = { λ a. IfSome a.rows (λ rows. rows.0 ≡ a.kind) };
 }
 
-// A derived Drop would be taken apart, field by field, at each exit of each caller.
+// A derived Drop would be expanded, field by field, at each exit of each caller.
 impl Drop for Mirror {
     fn drop(self) {
         let Mirror {

@@ -7,16 +7,18 @@ use Rattle.tab_term.specs.declared.term.Term.{Term}
 use Rattle.tab_term.specs.Data.{PlainTerm}
 use Rattle.tab_term.specs.Same.{same, same_equiv}
 use Rattle.tab_term.specs.View.{term}
-use Rattle.tab_model.specs.Tables.{Rows, key, at, put, put_bag, delete, delete_object, apply, is_ordered}
+use Rattle.tab_model.specs.Tables.{Rows, key, at, put, put_bag, delete, delete_object, apply, rows_after, is_ordered}
 use Rattle.tab_model.specs.WholeTables.{element}
 use Rattle.tab_model.specs.declared.data.Kind.{Kind}
 use Rattle.tab_model.specs.declared.data.Kind.TheVariants.{Set, Bag}
 use Rattle.tab_model.specs.declared.data.Change.{Change}
 use Rattle.tab_model.specs.declared.data.Change.TheVariants as change
+use Rattle.tab_model.specs.declared.data.TableDef.{TableDef}
 use Rattle.tab_model.proofs.TableLaws.{same_true, same_refl, at-del, at-put-set, at-put-bag}
-use Rattle.tab_model.proofs.ChangeLaws.{any_at, change_at_key}
+use Rattle.tab_model.proofs.ChangeLaws.{any_at, change_at_key, ordered-apply}
 use Rattle.tab_index.specs.IndexOf.{has_value}
 use Rattle.tab_index.specs.FurtherOf.{KeyCounts, further_of, how_many, IsRaised, IsLowered, IsForgotten, IsFurtherOf, AreApart}
+use Rattle.tab_index.specs.Indexed.{IsBare}
 use Rattle.tab_index.proofs.CountLemmas.{bit, count-cons, count-append, count-map, count_of_filter, count_without, none_counted, some_counted, counted_some, counted_none, none_go}
 use Rattle.tab_index.proofs.RowsLemmas.{any_has}
 
@@ -237,3 +239,13 @@ apart_apply kind rows (change.DeleteObject r) o a = record { apart = λ x k. sub
     cases : (x k : PlainTerm) (b : Bool) → count_by (same x) (at rows k) ≤ 1 → count_by (same x) (if b then delete_object (at rows k) (term r) else at rows k) ≤ 1
     cases x k true was = let less = count_of_filter (same x) (λ y. not (same (term r) y)) (at rows k) in omega (arith, less, was)
     cases x k false was = was
+
+-- ---- several changes
+
+-- what a table keeps without its indexes
+pub bare_after : (def : TableDef) (rows new : Kind × Rows) (cs : List Change) → IsBare def rows → new ≡ (rows.0, rows_after rows.0 rows.1 cs) → IsBare def new
+bare_after def rows new [] kept made = subst (IsBare def) (sym made) kept
+bare_after def rows new (c ∷ cs) kept made = bare_after def (rows.0, apply rows.0 rows.1 c) new cs one made
+  where
+    one : IsBare def (rows.0, apply rows.0 rows.1 c)
+    one = record { kind = kept.kind; ordered = ordered-apply rows.0 rows.1 c kept.ordered; apart = apart_apply rows.0 rows.1 c kept.ordered kept.apart }

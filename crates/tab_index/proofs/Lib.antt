@@ -8,4 +8,3 @@ pub mod IndexedLemmas
 pub mod QueryLemmas
 pub mod PairsLemmas
 pub mod FurtherPairs
-pub mod StandingLemmas

@@ -3,4 +3,3 @@ pub mod FurtherOf
 pub mod BoundKey
 pub mod Indexed
 pub mod Pairs
-pub mod Standing

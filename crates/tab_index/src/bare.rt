@@ -1,18 +1,16 @@
 //! A table without its indexes.
 
-ghost use Rattle.std.specs.Prelude.{◌≡◌, [], IfOk, IsTrue, MatchOption, OnOk, OnErr};
+ghost use Rattle.std.specs.Prelude.{◌≡◌, [], IfOk, MatchOption, OnOk, OnErr};
 ghost use Rattle.tab_term.specs.View.{term};
 ghost use Rattle.tab_model.specs.Names.{plain_terms};
-ghost use Rattle.tab_model.specs.Tables.{at, apply as apply_in, is_ordered};
+ghost use Rattle.tab_model.specs.Tables.{at, apply as apply_in, rows_after as applied_in};
 ghost use Rattle.tab_model.specs.Definitions.{with_indexes, add_number, less_number};
 ghost use Rattle.tab_model.specs.Catalogs.{with_rows, with_def};
-ghost use Rattle.tab_rows.specs.Restored.{restored};
 
-use crate::standing::Standing;
 use crate::table::IndexedTable;
 use std::alloc::{AllocError, Global};
 use std::marker::Model;
-use std::sync::Arc;
+use std::sync::{Arc, Wait};
 use tab_map::{Entry, Map};
 use tab_model::TableDef;
 use tab_records::Records;
@@ -42,7 +40,7 @@ impl Model for BareTable {
     ghost invariant = { λ a. IsBare a.def.value a.rows };
 }
 
-// A derived Drop would be taken apart, field by field, at each exit of each caller.
+// A derived Drop would be expanded, field by field, at each exit of each caller.
 impl Drop for BareTable {
     fn drop(self) {
         let BareTable { def, rows } = self;
@@ -144,23 +142,20 @@ impl BareTable {
         Ok(())
     }
 
-    /// The key's records, which are shared with the table.
-    pub fn standing(&self, alloc: Global, key: Term) -> Result<Standing, AllocError>
-        ensures stands { IfOk result
-            (λ standing. standing ≡ (term key, at self.now.rows (term key))) }
-        ensures ordered { IsTrue (is_ordered self.now.rows) }
-    {
-        Standing::of(alloc, &self.rows, key)
-    }
-
-    /// Puts a key's records back, in place.
-    pub fn restore(&mut self, alloc: Global, before: &Standing) -> Result<(), AllocError>
+    /// Makes the changes, in turn, or none of them, in place if nothing is shared. Records may be shared as by `change`.
+    pub fn change_all<R: Wait>(
+        &mut self,
+        rt: &R,
+        alloc: Global,
+        updates: &[Update],
+        lender: Option<&Map<Term, Records>>,
+    ) -> Result<(), AllocError>
         ensures ok { OnOk result
             (self.new
-            ≡ with_rows self.old (restored self.old.rows before.now.0 before.now.1)) }
+            ≡ with_rows self.old (applied_in self.old.def.kind self.old.rows updates.now)) }
         ensures err { OnErr result (self.new ≡ self.old) }
     {
-        before.restore(alloc, &mut self.rows)?;
+        self.rows.update_all(rt, alloc, updates, lender)?;
         Ok(())
     }
 

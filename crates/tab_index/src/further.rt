@@ -16,7 +16,7 @@ pub struct Further {
     by_key: Map<Term, Map<Term, u64>>,
 }
 
-// A derived Drop would be taken apart, field by field, at each exit of each caller.
+// A derived Drop would be expanded, field by field, at each exit of each caller.
 impl Drop for Further {
     fn drop(self) {
         let Further { by_key } = self;

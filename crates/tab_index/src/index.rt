@@ -32,7 +32,7 @@ pub struct Index {
     further: Further,
 }
 
-// A derived Drop would be taken apart, field by field, at each exit of each caller.
+// A derived Drop would be expanded, field by field, at each exit of each caller.
 impl Drop for Index {
     fn drop(self) {
         let Index {

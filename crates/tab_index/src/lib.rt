@@ -13,10 +13,8 @@ mod index;
 mod indexes;
 mod matching;
 mod querying;
-mod standing;
 mod table;
 
 pub use bare::BareTable;
 pub use matching::{bound_key, fits};
-pub use standing::Standing;
 pub use table::IndexedTable;

@@ -8,7 +8,6 @@ ghost use Rattle.tab_model.specs.Tables.{at, keys as keys_of_rows, apply as appl
 ghost use Rattle.tab_model.specs.Definitions.{has_number, with_indexes, add_number, less_number};
 ghost use Rattle.tab_model.specs.Catalogs.{with_rows, with_def};
 ghost use Rattle.tab_rows.specs.Joined.{joined, IsInOrder};
-ghost use Rattle.tab_rows.specs.Restored.{restored};
 ghost use Rattle.tab_map.specs.KeyList.{KeysAscend};
 ghost use Rattle.tab_index.specs.FurtherOf.{AreApart};
 ghost use Rattle.tab_index.specs.IndexOf.{AreKeysWith, IsIndexOf};
@@ -18,11 +17,10 @@ use crate::index::Index;
 use crate::indexes::{
     empty_indexes, indexes_of, new_place, other_indexes, positions_of, shared_indexes,
 };
-use crate::standing::Standing;
 use std::alloc::{AllocError, Global};
 use std::marker::Model;
 use std::slice;
-use std::sync::Arc;
+use std::sync::{Arc, Wait};
 use tab_lists::SharedTerms;
 use tab_map::{Entry, Iter, Map, Set};
 use tab_model::TableDef;
@@ -55,7 +53,7 @@ impl Model for IndexedTable {
     ghost invariant = { λ a. IsIndexed a.def.value a.rows a.indexes.items };
 }
 
-// A derived Drop would be taken apart, field by field, at each exit of each caller.
+// A derived Drop would be expanded, field by field, at each exit of each caller.
 impl Drop for IndexedTable {
     fn drop(self) {
         let IndexedTable { def, rows, indexes } = self;
@@ -292,39 +290,26 @@ impl IndexedTable {
         Ok(())
     }
 
-    /// The key's records, which are shared with the table.
-    pub fn standing(&self, alloc: Global, key: Term) -> Result<Standing, AllocError>
-        ensures stands { IfOk result
-            (λ standing. standing ≡ (term key, at self.now.rows (term key))) }
-        ensures ordered { IsTrue (is_ordered self.now.rows) }
-    {
-        Standing::of(alloc, &self.rows, key)
-    }
-
-    /// Puts a key's records back. A table without indexes is changed in place; the indexes of another are built again.
-    pub fn restore(&mut self, alloc: Global, before: &Standing) -> Result<(), AllocError>
+    /// Makes the changes, in turn, or none of them. A table without indexes is changed in place; one with indexes is
+    /// replaced by its next version. Records may be shared as by `updated`.
+    pub fn change_all<R: Wait>(
+        &mut self,
+        rt: &R,
+        alloc: Global,
+        updates: &[Update],
+        lender: Option<&Map<Term, Records>>,
+    ) -> Result<(), AllocError>
         ensures ok { OnOk result
             (self.new
-            ≡ with_rows self.old (restored self.old.rows before.now.0 before.now.1)) }
+            ≡ with_rows self.old (applied_in self.old.def.kind self.old.rows updates.now)) }
         ensures err { OnErr result (self.new ≡ self.old) }
     {
         if self.indexes.is_empty() {
-            before.restore(alloc, &mut self.rows)?;
+            self.rows.update_all(rt, alloc, updates, lender)?;
             return Ok(());
         }
-        *self = self.restored(alloc, before)?;
+        *self = self.updated(alloc, updates, lender)?;
         Ok(())
-    }
-
-    // The table with a key's records put back. This one stays as it was.
-    fn restored(&self, alloc: Global, before: &Standing) -> Result<IndexedTable, AllocError>
-        ensures { IfOk result
-            (λ table. table
-            ≡ with_rows self.now (restored self.now.rows before.now.0 before.now.1)) }
-    {
-        let mut rows = self.rows.share()?;
-        before.restore(alloc, &mut rows)?;
-        IndexedTable::of(alloc, Arc::try_clone(&self.def)?, rows)
     }
 }
 

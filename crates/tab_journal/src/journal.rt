@@ -26,10 +26,18 @@ const COMMAND_WEIGHT: usize = 2_000;
 
 /// An entry that was folded, and the base's tables before it if it is a schema command. A caller that holds a lock can drop them
 /// after it: that may take long.
-#[derive(Drop)]
 pub struct Folded {
     pub entry: Option<Entry>,
     pub tables: Option<BareCatalog>,
+}
+
+// A derived Drop would be expanded, field by field, at each exit of each caller.
+impl Drop for Folded {
+    fn drop(self) {
+        let Folded { entry, tables } = self;
+        drop(entry);
+        drop(tables);
+    }
 }
 
 /// The entries that are not folded yet, oldest first, with their weight, their bytes and their base.

@@ -43,7 +43,7 @@ impl Model for Midst {
         × IsOrderedCatalog a.base };
 }
 
-// A derived Drop would be taken apart, field by field, at each exit of each caller.
+// A derived Drop would be expanded, field by field, at each exit of each caller.
 impl Drop for Midst {
     fn drop(self) {
         let Midst {

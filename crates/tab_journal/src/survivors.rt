@@ -34,7 +34,7 @@ impl Model for Survivors {
     ghost invariant = { λ a. Falls (length a.updates.items) a.begun.items };
 }
 
-// A derived Drop would be taken apart, field by field, at each exit of each caller.
+// A derived Drop would be expanded, field by field, at each exit of each caller.
 impl Drop for Survivors {
     fn drop(self) {
         let Survivors { updates, begun } = self;

@@ -3,11 +3,11 @@ use Rattle.std.proofs.Common.{◌≡◌, ℕ, suc, List, [], ◌∷◌, ◌++◌
 use Rattle.std.specs.Prelude.{codes}
 use Rattle.tab_term.specs.Canon.{all_bytes}
 use Rattle.tab_term.specs.Data.{PlainTerm, atom, pair, one_more, count, plain_terms, terms_list}
-use Rattle.tab_term.specs.Memory.{memory}
+use Rattle.tab_term.specs.Memory.{memory, event_memory}
 use Rattle.tab_term.specs.View.{term}
 use Rattle.tab_lists.specs.declared.events.Detail.{Detail}
 use Rattle.tab_lists.specs.declared.events.EventTerm.{EventTerm}
-use Rattle.tab_lists.specs.EventTerms.{tag_word, told, event_memory, event_term, event_terms}
+use Rattle.tab_lists.specs.EventTerms.{tag_word, told, event_term, event_terms}
 
 -- one more event is one more term
 pub events_push : (es : List EventTerm) (e : EventTerm) → event_terms (es ++ e ∷ []) ≡ plain_terms (terms_list (event_terms es) ++ event_term e ∷ [])

@@ -7,7 +7,7 @@ use Rattle.tab_term.specs.Same.{same}
 use Rattle.tab_term.specs.View.{term}
 use Rattle.tab_lists.specs.declared.condition.Condition.{Condition}
 use Rattle.tab_lists.specs.declared.condition.Condition.TheVariants as condition
-use Rattle.tab_lists.specs.Elements.{element}
+use Rattle.tab_term.specs.Tuples.{element}
 
 -- a record fits a pattern, or has a value at a position
 abbrev pub meets : Condition → PlainTerm → Bool

@@ -1,5 +1,4 @@
 pub mod ByKey
-pub mod Elements
 pub mod Conditions
 pub mod Snapshots
 pub mod Left

@@ -22,7 +22,7 @@ pub enum Answer {
     Atomic(Answers),
 }
 
-// A derived drop would be taken apart, variant by variant, at each exit of each function that holds
+// A derived drop would be expanded, variant by variant, at each exit of each function that holds
 // an answer.
 impl Drop for Answer {
     #[cycle(answer)]

@@ -5,7 +5,7 @@ ghost use Rattle.tab_term.specs.Data.{list, none};
 ghost use Rattle.tab_term.specs.Same.{same};
 ghost use Rattle.tab_term.specs.View.{term, terms};
 ghost use Rattle.tab_lists.specs.Conditions.{meets};
-ghost use Rattle.tab_lists.specs.Elements.{nth, element};
+ghost use Rattle.tab_term.specs.Tuples.{nth, element};
 
 use tab_term::{Term, matches};
 
@@ -17,7 +17,7 @@ pub enum Condition {
     Has(u64, Term),
 }
 
-// A derived drop would be taken apart, variant by variant, at each exit of each function that holds a condition.
+// A derived drop would be expanded, variant by variant, at each exit of each function that holds a condition.
 impl Drop for Condition {
     fn drop(self) {
         match self {

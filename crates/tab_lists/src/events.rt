@@ -2,7 +2,8 @@
 
 ghost use Rattle.std.specs.Prelude.{◌≡◌, ◌≤◌, ◌+◌, ◌==◌, ◌++◌, ◌∷◌, [], OnOk, OnErr, IfOk, length, min, vec_len, vec_capacity, Some, None};
 ghost use Rattle.tab_term.specs.Data.{none, count, plain_terms, terms_list};
-ghost use Rattle.tab_lists.specs.EventTerms.{tag_word, event_term, event_terms, event_memory, event_memories};
+ghost use Rattle.tab_lists.specs.EventTerms.{tag_word, event_term, event_terms};
+ghost use Rattle.tab_term.specs.Memory.{event_memory, event_memories};
 ghost use Rattle.tab_lists.specs.EventsForms.{events_in};
 ghost use Rattle.tab_lists.specs.declared.events.EventTerm.{EventTerm};
 ghost use Rattle.tab_lists.specs.declared.events.EventsForm.TheVariants as form;
@@ -52,7 +53,7 @@ pub struct EventTerm {
     pub age: u64,
 }
 
-// A derived drop would be taken apart, field by field, at each exit of each function that holds one of these.
+// A derived drop would be expanded, field by field, at each exit of each function that holds one of these.
 impl Drop for Detail {
     fn drop(self) {
         let Detail { table, old } = self;
@@ -176,7 +177,7 @@ pub enum EventsForm {
     Many(Vec<SharedEvent>),
 }
 
-// A derived drop would be taken apart, variant by variant, at each exit of each function that holds events.
+// A derived drop would be expanded, variant by variant, at each exit of each function that holds events.
 impl Drop for EventsForm {
     fn drop(self) {
         match self {

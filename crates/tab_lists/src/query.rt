@@ -30,7 +30,7 @@ pub struct Query {
     pub condition: Condition,
 }
 
-// A derived drop would be taken apart, variant by variant, at each exit of each function that holds one of these.
+// A derived drop would be expanded, variant by variant, at each exit of each function that holds one of these.
 impl Drop for Scope {
     fn drop(self) {
         match self {

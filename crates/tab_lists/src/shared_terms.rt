@@ -47,7 +47,7 @@ pub enum Form {
     Found(Arc<Query, Global>),
 }
 
-// A derived drop would be taken apart, variant by variant, at each exit of each function that holds a list.
+// A derived drop would be expanded, variant by variant, at each exit of each function that holds a list.
 impl Drop for Form {
     fn drop(self) {
         match self {

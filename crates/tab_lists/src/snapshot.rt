@@ -17,7 +17,7 @@ pub struct Snapshot {
     committed: Map<Term, Records>,
 }
 
-// A derived drop would be taken apart, field by field, at each exit of each function that holds a snapshot.
+// A derived drop would be expanded, field by field, at each exit of each function that holds a snapshot.
 impl Drop for Snapshot {
     fn drop(self) {
         let Snapshot { own, committed } = self;

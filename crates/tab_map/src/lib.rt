@@ -86,7 +86,7 @@ impl<K: Abbreviate, V> Model for Map<K, V> {
     ghost size_decreases = { λ a h. falls K.Abbreviate K.Ord K.PartialEq K.PartialOrd a.root h.1 };
 }
 
-// A derived Drop would be taken apart, field by field, at each exit of each caller.
+// A derived Drop would be expanded, field by field, at each exit of each caller.
 impl<K: Abbreviate + Drop, V: Drop> Drop for Map<K, V> {
     #[cycle(tree)]
     fn drop(self) {

@@ -36,7 +36,7 @@ impl<K: Abbreviate> Model for Set<K> {
     ghost view = { λ set. keys (held set.form) };
 }
 
-// A derived Drop would be taken apart, variant by variant, at each exit of each caller.
+// A derived Drop would be expanded, variant by variant, at each exit of each caller.
 impl<K: Abbreviate + Drop> Drop for Form<K> {
     fn drop(self) {
         match self {

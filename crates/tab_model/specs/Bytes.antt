@@ -1,6 +1,6 @@
 -- How many bytes of memory an item of an outbox takes that no table has (this project's own).
 use Rattle.std.specs.Prelude.{ℕ}
-use Rattle.tab_lists.specs.EventTerms.{event_memories}
+use Rattle.tab_term.specs.Memory.{event_memories}
 use Rattle.tab_model.specs.declared.data.Item.{Item}
 use Rattle.tab_model.specs.declared.data.Item.TheVariants.{Batch}
 

@@ -12,7 +12,7 @@ use Rattle.tab_model.specs.declared.data.Change.{Change}
 use Rattle.tab_model.specs.declared.data.Change.TheVariants as change
 use Rattle.tab_model.specs.declared.data.Event.{Event}
 use Rattle.tab_model.specs.Operations.{table_of_change}
-pub use Rattle.tab_lists.specs.EventTerms.{tid, five}
+pub use Rattle.tab_term.specs.Tuples.{tid, five}
 
 -- the value of the program that a term is
 abbrev pub term_value : PlainTerm → Term

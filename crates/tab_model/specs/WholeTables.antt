@@ -6,7 +6,7 @@ use Rattle.tab_term.specs.Data.{PlainTerm}
 use Rattle.tab_term.specs.Same.{same}
 use Rattle.tab_term.specs.Pattern.{matches}
 use Rattle.tab_model.specs.Tables.{Rows}
-pub use Rattle.tab_lists.specs.Elements.{nth, element}
+pub use Rattle.tab_term.specs.Tuples.{nth, element}
 
 -- the records with a value at an indexed position (index_read/3)
 abbrev pub index_read : Rows → ℕ → PlainTerm → Rows

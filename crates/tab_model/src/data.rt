@@ -316,7 +316,7 @@ pub enum Entry {
     Unsubscribed(u32, Atom),
 }
 
-// A derived drop would be taken apart, variant by variant, at each exit of each function that holds one of these.
+// A derived drop would be expanded, variant by variant, at each exit of each function that holds one of these.
 impl Drop for Operation {
     fn drop(self) {
         match self {

@@ -43,7 +43,7 @@ impl Model for LoggedOperation {
     ghost view = { λ a. operation_in a.form };
 }
 
-// A derived Drop would be taken apart, variant by variant, at each exit of each caller.
+// A derived Drop would be expanded, variant by variant, at each exit of each caller.
 impl Drop for OperationForm {
     fn drop(self) {
         match self {

@@ -46,7 +46,7 @@ impl Model for LoggedReply {
     ghost invariant = { λ a. IsKept a.kept };
 }
 
-// A derived Drop would be taken apart, variant by variant, at each exit of each caller.
+// A derived Drop would be expanded, variant by variant, at each exit of each caller.
 impl Drop for LoggedReply {
     fn drop(self) {
         let LoggedReply { kept } = self;

@@ -32,7 +32,7 @@ impl Model for OnlyRecord {
     ghost invariant = { λ a. IsOnly (term (record_in a.entry)) a.entry };
 }
 
-// A derived Drop would be taken apart, field by field, at each exit of each caller.
+// A derived Drop would be expanded, field by field, at each exit of each caller.
 impl Drop for OnlyRecord {
     fn drop(self) {
         let OnlyRecord { entry } = self;

@@ -26,7 +26,7 @@ impl Drop for Weighed {
     }
 }
 
-// A derived drop would be taken apart, field by field, at each exit of each function that holds one of these.
+// A derived drop would be expanded, field by field, at each exit of each function that holds one of these.
 impl Drop for SharedItem {
     fn drop(self) {
         let SharedItem { held } = self;

@@ -39,7 +39,7 @@ impl Model for SharedReply {
     ghost invariant = { λ a. IsOwned a.owned };
 }
 
-// A derived Drop would be taken apart, variant by variant, at each exit of each caller.
+// A derived Drop would be expanded, variant by variant, at each exit of each caller.
 impl Drop for SharedReply {
     fn drop(self) {
         let SharedReply { owned } = self;

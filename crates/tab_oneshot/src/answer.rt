@@ -32,7 +32,7 @@ pub struct OneShotAnswer {
     pub reply: SharedReply,
 }
 
-// A derived Drop would be taken apart, variant by variant, at each exit of each caller.
+// A derived Drop would be expanded, variant by variant, at each exit of each caller.
 impl Drop for OneShotAnswer {
     fn drop(self) {
         let OneShotAnswer { reply } = self;

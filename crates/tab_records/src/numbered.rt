@@ -48,7 +48,7 @@ impl Model for Numbered {
         (λ n. IsNumbered a.by_number n.value.by_record n.value.next n.value.count) };
 }
 
-// A derived drop would be taken apart, field by field, at each exit of each caller.
+// A derived drop would be expanded, field by field, at each exit of each caller.
 impl Drop for Numbered {
     fn drop(self) {
         let Numbered { by_number, numbers } = self;

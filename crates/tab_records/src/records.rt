@@ -41,7 +41,7 @@ impl Model for Records {
     ghost view = { λ a. records_of a.form };
 }
 
-// A derived drop would be taken apart, variant by variant, at each exit of each caller.
+// A derived drop would be expanded, variant by variant, at each exit of each caller.
 impl Drop for Form {
     fn drop(self) {
         match self {

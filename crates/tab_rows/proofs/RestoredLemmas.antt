@@ -1,7 +1,8 @@
 -- Records that are put back: a change that is undone, and what the map of the records makes of it.
 use Rattle.std.proofs.Common.{◌≡◌, List, [], ◌∷◌, ◌++◌, Bool, true, false, not, ◌||◌, refl, sym, ap, ap₂, ◌∙◌, subst, Less, Equal, Greater, Ordering, append_assoc}
-use Rattle.std.specs.Prelude.{◌≢◌, if◌then◌else◌, Option, None, Some, IfSome}
+use Rattle.std.specs.Prelude.{◌≢◌, if◌then◌else◌, Option, None, Some, IfSome, Result, Ok, Err, IfOk, OnOk}
 use Rattle.std.specs.List.{filter, list_all, list_any}
+use Rattle.std.specs.Option.{option_map}
 use Rattle.std.specs.Ordering.{match_ordering, is_lt, ordering_reverse}
 use Rattle.std.specs.Cmp.{IsTotalOrder}
 use Rattle.std.proofs.lemmas.Bool.{false≢true, and_parts}
@@ -24,8 +25,10 @@ use Rattle.tab_model.specs.declared.data.Change.TheVariants as change
 use Rattle.tab_model.proofs.Order.{less-asym, less-trans, less-irrefl, less-linear}
 use Rattle.tab_model.proofs.TableLaws.{same_true, same_refl, at-del, ordered-filter}
 use Rattle.tab_rows.specs.Joined.{Entry, joined, AllKeyed, IsInOrder}
-use Rattle.tab_rows.specs.Restored.{restored, IsOfKey}
-use Rattle.tab_rows.proofs.Cells.{found_in, found_keyed}
+use Rattle.tab_rows.specs.Restored.{restored, records_of, HasRecordsOf}
+use Rattle.tab_rows.specs.Former as Former
+use Rattle.tab_rows.specs.Former.{AtKey, all_put_back}
+use Rattle.tab_rows.proofs.Cells.{found_in, found_keyed, at-joined, ordered-joined}
 
 -- ---- the records of other keys, after a change
 
@@ -142,7 +145,7 @@ parts (x ∷ rows) k o =
         greater_of : less (key x) k ≡ false → same (key x) k ≡ false → less k (key x) ≡ true
         greater_of e f = ap (λ b. b || less k (key x)) (sym (other_way (same k (key x)) refl f)) ∙ less-linear (key x) k e
 
--- what stood at the key of a change, put back, undoes it
+-- the former records of a change's key, put back, undo it
 pub undoes : (kind : Kind) (rows : Rows) (c : Change) → is_ordered rows ≡ true → restored (apply kind rows c) (key_of_change c) (at rows (key_of_change c)) ≡ rows
 undoes kind rows c o =
     let k = key_of_change c in
@@ -223,11 +226,39 @@ found_filled (e ∷ es) k d = cases (found_filled es k d.1) (term_cmp k e.0)
     cases ih Equal = d.0.filled
     cases ih Greater = ih
 
-pub of_key : (es : List Entry) (k : Term) (ts : PlainTerms) (e : Entry) → IsInOrder es → Some ts ≡ lookup term_cmp k es → term e.0 ≡ term k → e.1 ≡ ts → IsOfKey (term k) e
-of_key es k ts e o found here records = record {
-  key = here;
-  records = record {
-    keyed = ap₂ (λ j xs. list_all (has_key j) (terms_list xs)) here records ∙ ap (λ (x : Option PlainTerms). list_all (has_key (term k)) (found_in x)) found ∙ found_keyed es k o;
-    filled = subst (λ (xs : PlainTerms). terms_list xs ≢ []) (sym records) (subst (λ (x : Option PlainTerms). IfSome x (λ ts. terms_list ts ≢ [])) (sym found) (found_filled es k o.keyed));
-  };
+-- the former records of a key, as a search of the map found them
+pub former_keyed : (es : List Entry) (k : Term) (o : Option Entry) → IsInOrder es → option_map (λ e. e.1) o ≡ lookup term_cmp k es → IfSome o (HasRecordsOf (term k))
+former_keyed es k None order found = tt
+former_keyed es k (Some e) order found = record {
+  keyed = ap (λ (x : Option PlainTerms). list_all (has_key (term k)) (found_in x)) found ∙ found_keyed es k order;
+  filled = subst (λ (x : Option PlainTerms). IfSome x (λ ts. terms_list ts ≢ [])) (sym found) (found_filled es k order.keyed);
 }
+
+pub former_records : (es : List Entry) (k : Term) (o : Option Entry) → IsInOrder es → option_map (λ e. e.1) o ≡ lookup term_cmp k es → records_of o ≡ at (joined es) (term k)
+former_records es k None order found = ap found_in found ∙ sym (at-joined es k order.ascends order.keyed)
+former_records es k (Some e) order found = ap found_in found ∙ sym (at-joined es k order.ascends order.keyed)
+
+-- at an equal key
+pub keyed_at : (j k : PlainTerm) (o : Option Entry) → j ≡ k → IfSome o (HasRecordsOf j) → IfSome o (HasRecordsOf k)
+keyed_at j k o e h = subst (λ q. IfSome o (HasRecordsOf q)) e h
+
+-- a change is undone by the former records of its key
+pub undone_by : (es : List Entry) (rows new : Kind × Rows) (c : Change) (s : AtKey) → IsInOrder es → joined es ≡ rows.1 → new ≡ (rows.0, apply rows.0 rows.1 c) → s ≡ (key_of_change c, at rows.1 (key_of_change c))
+    → Former.put_back new s ≡ rows
+undone_by es rows new c s o view made kept =
+    ap₂ Former.put_back made kept ∙ ap (λ (xs : Rows). (rows.0, xs)) (undoes rows.0 rows.1 c (ap is_ordered (sym view) ∙ ordered-joined es o.ascends o.keyed))
+
+-- and where it may be refused
+pub undone_if : {E : Type 0} (es : List Entry) (rows new : Kind × Rows) (c : Change) (r : Result AtKey E) → IsInOrder es → joined es ≡ rows.1 → OnOk r (new ≡ (rows.0, apply rows.0 rows.1 c))
+    → IfOk r (λ s. s ≡ (key_of_change c, at rows.1 (key_of_change c))) → IfOk r (λ s. Former.put_back new s ≡ rows)
+undone_if es rows new c (Ok s) o view made kept = undone_by es rows new c s o view made kept
+undone_if es rows new c (Err e) o view made kept = tt
+
+-- what was kept last is put back first
+pub last_first : (rows : Kind × Rows) (ss : List AtKey) (s : AtKey) → all_put_back rows (ss ++ s ∷ []) ≡ all_put_back (Former.put_back rows s) ss
+last_first rows [] s = refl
+last_first rows (x ∷ ss) s = ap (λ v. Former.put_back v x) (last_first rows ss s)
+
+-- what is taken from the end is put back
+pub popped : (rows new : Kind × Rows) (all left : List AtKey) (s : AtKey) → all ≡ left ++ s ∷ [] → new ≡ Former.put_back rows s → all_put_back new left ≡ all_put_back rows all
+popped rows new all left s items made = ap (λ v. all_put_back v left) made ∙ sym (last_first rows left s) ∙ ap (all_put_back rows) (sym items)

@@ -1,3 +1,4 @@
+pub mod Former
 pub mod Joined
 pub mod Restored
 pub mod Updates

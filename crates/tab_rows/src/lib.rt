@@ -9,7 +9,9 @@
 
 mod append;
 mod entries;
+mod former;
 mod rows;
+mod several;
 mod update;
 
 pub use append::Append;

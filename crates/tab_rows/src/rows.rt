@@ -1,4 +1,4 @@
-ghost use Rattle.std.specs.Prelude.{◌≡◌, ◌≤◌, ◌+◌, [], ◌∷◌, ◌++◌, IfOk, IfSome, IsTrue, OnOk, OnErr, MatchOption, length};
+ghost use Rattle.std.specs.Prelude.{◌≡◌, ◌≤◌, ◌+◌, [], ◌∷◌, ◌++◌, IfOk, IfSome, OnOk, OnErr, MatchOption, length};
 ghost use Rattle.std.specs.List.{list_any};
 ghost use Rattle.tab_model.specs.declared.data.Kind.TheVariants as Kind;
 ghost use Rattle.tab_term.specs.Same.{same};
@@ -6,13 +6,15 @@ ghost use Rattle.tab_map.specs.Entries.{insert_entry};
 ghost use Rattle.tab_term.specs.Order.{term_cmp};
 ghost use Rattle.tab_term.specs.View.{term, terms};
 ghost use Rattle.tab_model.specs.Names.{plain_terms, terms_list};
-ghost use Rattle.tab_model.specs.Tables.{apply, at, is_ordered, key as key_of_row, keys as keys_of_rows, put as put_in, delete as delete_in, delete_object as delete_object_in};
+ghost use Rattle.tab_model.specs.Tables.{apply, at, key as key_of_row, keys as keys_of_rows, put as put_in, delete as delete_in, delete_object as delete_object_in};
 ghost use Rattle.tab_model.specs.OnlyRecords.{IsOnly, record_in};
 ghost use Rattle.tab_rows.specs.Joined.{joined, IsInOrder, IsKeyed};
-ghost use Rattle.tab_rows.specs.Restored.{restored, records_of, IsOfKey};
+ghost use Rattle.tab_rows.specs.Restored.{restored, records_of, HasRecordsOf};
+ghost use Rattle.tab_rows.specs.Former.{put_back};
 
 use crate::append::Append;
 use crate::entries::entry_of;
+use crate::former::Former;
 use crate::update::{Form, Update};
 use std::alloc::{AllocError, Global};
 use std::marker::Model;
@@ -47,7 +49,7 @@ impl Model for Rows {
     ghost invariant = { λ a. IsKept a.records a.size };
 }
 
-// A derived Drop would be taken apart, field by field, at each exit of each caller.
+// A derived Drop would be expanded, field by field, at each exit of each caller.
 impl Drop for Rows {
     fn drop(self) {
         let Rows {
@@ -187,6 +189,54 @@ impl Rows {
         }
     }
 
+    /// Makes a change as `update` does, and returns the former records of its key.
+    pub(crate) fn exchange(
+        &mut self,
+        alloc: Global,
+        update: &Update,
+        lender: Option<&Map<Term, Records>>,
+    ) -> Result<Former, AllocError>
+        ensures ok { OnOk result
+            (self.new ≡ (self.old.0, apply self.old.0 self.old.1 update.now)) }
+        ensures former { IfOk result (λ former. put_back self.new former ≡ self.old) }
+        ensures err { OnErr result (self.new ≡ self.old) }
+    {
+        if let (Kind::Set, Form::Only(only)) = (self.kind, update.form()) {
+            return self.exchange_only(alloc, only);
+        }
+        let key = update.copy_of_key(alloc)?;
+        let former = self.former_at(key)?;
+        self.update(alloc, update, lender)?;
+        Ok(former)
+    }
+
+    // The search for the place of a set's entry finds the former one.
+    fn exchange_only(&mut self, alloc: Global, only: &OnlyRecord) -> Result<Former, AllocError>
+        requires { self.old.0 ≡ Kind.Set }
+        ensures ok { OnOk result
+            (self.new ≡ (self.old.0, put_in self.old.0 self.old.1 (term only.now))) }
+        ensures former { let key = key_of_row (term only.now) in
+            IfOk result (λ former. former ≡ (key, at self.old.1 key)) }
+        ensures err { OnErr result (self.new ≡ self.old) }
+    {
+        let key = copy_of_key(alloc, only.row())?;
+        let entry = self.exchange_entry(alloc, only.to_entry()?)?;
+        Ok(Former { key, entry })
+    }
+
+    // The entry of the key is shared with this.
+    fn former_at(&self, key: Term) -> Result<Former, AllocError>
+        ensures { IfOk result (λ former. former ≡ (term key, at self.now.1 (term key))) }
+    {
+        match self.records.get_entry(&key) {
+            Some(entry) => {
+                let entry = Some(entry.try_clone()?);
+                Ok(Former { key, entry })
+            }
+            None => Ok(Former { key, entry: None }),
+        }
+    }
+
     fn put_only(&mut self, alloc: Global, only: &OnlyRecord) -> Result<(), AllocError>
         ensures ok { OnOk result
             (self.new ≡ (self.old.0, put_in self.old.0 self.old.1 (term only.now))) }
@@ -243,10 +293,29 @@ impl Rows {
             (self.new ≡ (self.old.0, put_in self.old.0 self.old.1 (term (record_in entry)))) }
         ensures err { OnErr result (self.new ≡ self.old) }
     {
-        let size = one_more(self.size)?;
-        let before = replace(&mut self.records, alloc, entry)?;
-        self.size = size - before;
+        let _replaced = self.exchange_entry(alloc, entry)?;
         Ok(())
+    }
+
+    // Puts the entry of a key's only record, and returns the former entry of the key.
+    fn exchange_entry(
+        &mut self,
+        alloc: Global,
+        entry: Entry<Term, Records>,
+    ) -> Result<Option<Entry<Term, Records>>, AllocError>
+        requires kind { self.old.0 ≡ Kind.Set }
+        requires only { IsOnly (term (record_in entry)) entry }
+        ensures ok { OnOk result
+            (self.new ≡ (self.old.0, put_in self.old.0 self.old.1 (term (record_in entry)))) }
+        ensures former { IfOk result
+            (λ former. records_of former ≡ at self.old.1 (term entry.0)) }
+        ensures keyed { IfOk result (λ former. IfSome former (HasRecordsOf (term entry.0))) }
+        ensures err { OnErr result (self.new ≡ self.old) }
+    {
+        let size = one_more(self.size)?;
+        let former = replace(&mut self.records, alloc, entry)?;
+        self.size = size - count_of(&former);
+        Ok(former)
     }
 
     fn add(
@@ -296,39 +365,14 @@ impl Rows {
         Ok(())
     }
 
-    /// The entry of the key, which is shared with this, to be put back by `restore`. None if the key has no records.
-    pub fn standing(
-        &self,
-        alloc: Global,
-        key: &Term,
-    ) -> Result<Option<Entry<Term, Records>>, AllocError>
-        ensures records { IfOk result
-            (λ entry. records_of entry ≡ at self.now.1 (term key.now)) }
-        ensures key { IfOk result (λ entry. IfSome entry (IsOfKey (term key.now))) }
-    {
-        match self.records.get_entry(key) {
-            Some(entry) => Ok(Some(entry_at(alloc, entry, key)?)),
-            None => Ok(None),
-        }
-    }
-
-    /// Puts records back in the place of those of their key: the entry of the key before, or none. It takes memory
-    /// only if nodes are shared, or were merged since.
-    pub fn restore(
-        &mut self,
-        alloc: Global,
-        key: &Term,
-        before: Option<Entry<Term, Records>>,
-    ) -> Result<(), AllocError>
-        requires { IfSome before (IsOfKey (term key.now)) }
-        ensures ok { OnOk result
-            (self.new ≡ (self.old.0, restored self.old.1 (term key.now) (records_of before))) }
-        ensures ordered { OnOk result (IsTrue (is_ordered self.new.1)) }
+    /// Puts back the former records of a key. It takes memory only if nodes are shared, or were merged since.
+    pub(crate) fn restore(&mut self, alloc: Global, former: &Former) -> Result<(), AllocError>
+        ensures ok { OnOk result (self.new ≡ put_back self.old former.now) }
         ensures err { OnErr result (self.new ≡ self.old) }
     {
-        match before {
-            Some(entry) => self.put_back(alloc, entry),
-            None => self.take_out(alloc, key),
+        match &former.entry {
+            Some(entry) => self.put_back(alloc, entry_at(alloc, entry, &former.key)?),
+            None => self.take_out(alloc, &former.key),
         }
     }
 
@@ -336,12 +380,11 @@ impl Rows {
         requires { IsKeyed entry }
         ensures ok { OnOk result
             (self.new ≡ (self.old.0, restored self.old.1 (term entry.0) (terms_list entry.1))) }
-        ensures ordered { OnOk result (IsTrue (is_ordered self.new.1)) }
         ensures err { OnErr result (self.new ≡ self.old) }
     {
         let size = sum_of(self.size, entry.pair().1.len())?;
-        let before = replace(&mut self.records, alloc, entry)?;
-        self.size = size - before;
+        let former = replace(&mut self.records, alloc, entry)?;
+        self.size = size - count_of(&former);
         Ok(())
     }
 
@@ -350,7 +393,6 @@ impl Rows {
             (self.new ≡ (self.old.0, restored self.old.1 (term key.now) [])) }
         ensures deleted { OnOk result
             (self.new ≡ (self.old.0, delete_in self.old.1 (term key.now))) }
-        ensures ordered { OnOk result (IsTrue (is_ordered self.new.1)) }
         ensures err { OnErr result (self.new ≡ self.old) }
     {
         let size = self.size - self.count_at(key);
@@ -387,7 +429,7 @@ impl Rows {
     }
 }
 
-// The entry, which a look-up found at this key. No contract of a map says that it is found by its own key.
+// The entry under this key. No contract of a map says that an entry found at a key has that key itself.
 fn entry_at(
     alloc: Global,
     entry: &Entry<Term, Records>,
@@ -403,21 +445,28 @@ fn entry_at(
     Entry::new(alloc, (key.try_clone(alloc)?, records.try_clone(alloc)?))
 }
 
-// Puts the entry at its key, and tells how many records stood there: one search for both.
+// Puts the entry at its key, and returns the former one: one search for both.
 fn replace(
     by_key: &mut Map<Term, Records>,
     alloc: Global,
     entry: Entry<Term, Records>,
-) -> Result<usize, AllocError>
+) -> Result<Option<Entry<Term, Records>>, AllocError>
     requires { IsInOrder by_key.old }
     ensures ok { OnOk result (by_key.new ≡ insert_entry term_cmp entry by_key.old) }
-    ensures count { IfOk result (λ n. n ≡ length (at (joined by_key.old) (term entry.0))) }
-    ensures within { IfOk result (λ n. n ≤ length (joined by_key.old)) }
+    ensures former { IfOk result
+        (λ former. records_of former ≡ at (joined by_key.old) (term entry.0)) }
+    ensures keyed { IfOk result (λ former. IfSome former (HasRecordsOf (term entry.0))) }
     ensures err { OnErr result (by_key.new ≡ by_key.old) }
 {
-    match by_key.replace_entry(alloc, entry)? {
-        Some(entry) => Ok(entry.pair().1.len()),
-        None => Ok(0),
+    by_key.replace_entry(alloc, entry)
+}
+
+fn count_of(entry: &Option<Entry<Term, Records>>) -> usize
+    ensures { result ≡ length (records_of entry.now) }
+{
+    match entry {
+        Some(entry) => entry.pair().1.len(),
+        None => 0,
     }
 }
 

@@ -36,7 +36,7 @@ impl Model for Update {
     ghost view = { λ a. change_in a.form };
 }
 
-// A derived Drop would be taken apart, variant by variant, at each exit of each caller.
+// A derived Drop would be expanded, variant by variant, at each exit of each caller.
 impl Drop for Form {
     fn drop(self) {
         match self {

@@ -7,3 +7,4 @@ pub mod Serving
 pub mod Streaming
 pub mod Rereading
 pub mod Unlogged
+pub mod Encoding

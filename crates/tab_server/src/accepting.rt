@@ -71,7 +71,8 @@ impl<'a, H: Host + Threads + Send + Sync, G: Gate + Notes + Sync> Serving<'a, H,
     }
 
     fn dispatch(&self) {
-        self.dispatcher.run(self.server.host, self.server.gate);
+        let server = self.server;
+        self.dispatcher.run(server.host, server.alloc, server.gate);
     }
 
     fn serve_some(&self, listener: &Listener, connections: u32) -> io::Result<()> {

@@ -1,5 +1,6 @@
 //! The thread that sends the events of all connections.
 
+use crate::encoded::Encoded;
 use crate::gate::Notes;
 use crate::line::Line;
 use std::alloc::Global;
@@ -27,6 +28,28 @@ pub struct Dispatcher<H: Host> {
     room: Room,
     runs: AtomicBool,
     is_over: AtomicBool,
+}
+
+/// What the dispatcher takes from one connection to the next.
+pub struct Round<'a, H: Host, N: Notes> {
+    pub host: &'a H,
+    /// What a mailbox holds.
+    pub room: Room,
+    pub notes: &'a N,
+    pub last: Encoded,
+}
+
+// A derived Drop would be expanded, field by field, at each exit of each caller.
+impl<'a, H: Host, N: Notes> Drop for Round<'a, H, N> {
+    fn drop(self) {
+        let Round {
+            host: _,
+            room: _,
+            notes: _,
+            last,
+        } = self;
+        drop(last);
+    }
 }
 
 impl<H: Host> Dispatcher<H> {
@@ -90,13 +113,19 @@ impl<H: Host> Dispatcher<H> {
     }
 
     /// Sends events until `end` is called.
-    pub fn run<N: Notes>(&self, host: &H, notes: &N) {
+    pub fn run<N: Notes>(&self, host: &H, alloc: Global, notes: &N) {
+        let mut round = Round {
+            host,
+            room: self.room,
+            notes,
+            last: Encoded::new(alloc),
+        };
         for _ in host.forever() {
             let seen = self.bell.notifications();
             if self.is_over.load(Ordering::SeqCst) {
                 return;
             }
-            if !self.send_all(host, notes) && !self.is_rung_soon(seen) {
+            if !self.send_all(&mut round) && !self.is_rung_soon(seen) {
                 self.bell.sleep(host, seen, Duration::from_millis(SLEEP));
             }
         }
@@ -115,12 +144,12 @@ impl<H: Host> Dispatcher<H> {
     }
 
     /// Sends once the waiting events of each connection whose session has subscribed. Returns true if one may have more.
-    fn send_all<N: Notes>(&self, host: &H, notes: &N) -> bool {
-        let lines = self.lines.lock(host);
+    fn send_all<N: Notes>(&self, round: &mut Round<'_, H, N>) -> bool {
+        let lines = self.lines.lock(round.host);
         let mut more = false;
         for line in lines.iter() {
             if line.watches() {
-                more |= line.send_now(host, self.room, notes);
+                more |= line.send_now(round);
             }
         }
         more

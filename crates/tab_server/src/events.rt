@@ -8,6 +8,7 @@ ghost use Rattle.tab_server.specs.Forwarded.{aside_frames, Forwards, NothingLeft
 ghost use Rattle.tab_server.specs.Sending.{Goes};
 
 use crate::answers::Unwritten;
+use crate::encoded::is_one;
 use crate::gate::{Count, Note, Notes};
 use crate::outlet::{Outlet, SharedSink};
 use crate::server::Server;
@@ -45,9 +46,13 @@ pub fn event_loop<H: Host, W: Write, N: Notes>(
 
 /// Returns whether an item is longer than the bytes that are kept before they are sent. Only an item with records or
 /// events can be long.
-pub fn is_long(item: &Item) -> bool {
+pub fn is_long(item: &SharedItem) -> bool {
+    // No term is walked: an item has its bytes with it, and an event's frame has few more.
+    if is_one(item.item()) && item.memory() < KEPT as u64 / 2 {
+        return false;
+    }
     let mut len = 0;
-    match item {
+    match item.item() {
         Item::Began(_, _, Some(terms)) => { terms.iter().any(|term| reaches(&mut len, term)) }
         Item::Batch(_, events) => {
             events
@@ -86,7 +91,7 @@ impl<'a, H: Host, O: Outlet, N: Notes> Events<'a, H, O, N> {
             let Some(item) = self.inbox.receive() else {
                 return Ok(());
             };
-            self.keep(item.item())?;
+            self.keep(&item)?;
             let taken = Load::none().with(&item);
             // A send may block for long, and the item's records may be in no table any more.
             drop(item);
@@ -130,7 +135,7 @@ impl<'a, H: Host, O: Outlet, N: Notes> Events<'a, H, O, N> {
             × (self.new.frames.ghost_name ≡ self.old.frames.ghost_name) }
     {
         match long {
-            Some(item) => self.keep(item.item()),
+            Some(item) => self.keep(item),
             None => Ok(()),
         }
     }
@@ -208,7 +213,7 @@ impl<'a, H: Host, O: Outlet, N: Notes> Events<'a, H, O, N> {
             let Some(item) = self.inbox.try_receive() else {
                 return Ok(taken);
             };
-            self.keep(item.item())?;
+            self.keep(&item)?;
             taken = taken.with(&item);
         }
         unreachable!()
@@ -233,7 +238,7 @@ impl<'a, H: Host, O: Outlet, N: Notes> Events<'a, H, O, N> {
     {
         for _ in self.host.forever() {
             match self.shared.drained(self.host, &self.seat, self.inbox) {
-                Drained::Going(item) => self.keep(item.item())?,
+                Drained::Going(item) => self.keep(&item)?,
                 Drained::Overflow(number) => {
                     self.notes
                         .note(Note::Overflowed(self.seat.session(), number));
@@ -246,7 +251,7 @@ impl<'a, H: Host, O: Outlet, N: Notes> Events<'a, H, O, N> {
     }
 
     /// Keeps an item, until some are sent at once.
-    fn keep(&mut self, item: &Item) -> Result<(), Unwritten>
+    fn keep(&mut self, item: &SharedItem) -> Result<(), Unwritten>
         ensures bytes { OnOk result
             (Goes O.sent O.broken self.old.outlet self.old.frames.now.items self.new.outlet
             self.new.frames.now.items (sent_frames self.old.delivery item.now)) }
@@ -258,9 +263,9 @@ impl<'a, H: Host, O: Outlet, N: Notes> Events<'a, H, O, N> {
             × (self.new.frames.ghost_name ≡ self.old.frames.ghost_name) }
     {
         if is_long(item) {
-            self.send_long(item)?;
+            self.send_long(item.item())?;
         } else {
-            append_item(item, self.delivery, self.frames)?;
+            append_item(item.item(), self.delivery, self.frames)?;
         }
         self.notes.count_of(self.seat.session(), Count::Items, 1);
         if self.frames.len() >= KEPT {

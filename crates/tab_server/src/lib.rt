@@ -10,6 +10,7 @@ mod accepting;
 mod answers;
 mod connection;
 mod dispatcher;
+mod encoded;
 mod events;
 mod gate;
 mod incoming;

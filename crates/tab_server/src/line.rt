@@ -6,7 +6,7 @@ ghost use Rattle.tab_post.specs.Rooms.{IsBelowSince};
 ghost use Rattle.tab_server.specs.Forwarded.{Forwards, NothingLeft};
 
 use crate::answers::Unwritten;
-use crate::dispatcher::Dispatcher;
+use crate::dispatcher::{Dispatcher, Round};
 use crate::events::{Events, event_loop};
 use crate::gate::{Count, Notes};
 use crate::mail::{Mail, Progress, Turn};
@@ -18,7 +18,7 @@ use std::net::TcpStream;
 use std::sync::atomic::{AtomicBool, Ordering};
 use std::sync::{Condvar, Mutex, Wait};
 use tab_book::Seat;
-use tab_post::{Host, Inbox, Load, Room};
+use tab_post::{Host, Inbox, Load};
 use tab_proto::Delivery;
 use tab_sink::FrameSink;
 
@@ -89,14 +89,14 @@ impl<H: Host> Line<H> {
     }
 
     /// Sends the waiting events without blocking, if it is the dispatcher's turn. Returns true if more may wait.
-    pub fn send_now<N: Notes>(&self, host: &H, room: Room, notes: &N) -> bool {
+    pub fn send_now<N: Notes>(&self, round: &mut Round<'_, H, N>) -> bool {
         let Some(mut mail) = self.mail.try_lock() else {
             return false;
         };
         if mail.turn != Turn::Dispatcher {
             return false;
         }
-        match self.advance(host, &mut mail, room, notes) {
+        match self.advance(&mut mail, round) {
             Progress::Done => false,
             Progress::More => true,
             Progress::Stuck => {
@@ -108,8 +108,9 @@ impl<H: Host> Line<H> {
         }
     }
 
-    fn advance<N: Notes>(&self, host: &H, mail: &mut Mail<H>, room: Room, notes: &N) -> Progress {
-        let gathered = mail.gather(host, self.session(), self.delivery, notes);
+    fn advance<N: Notes>(&self, mail: &mut Mail<H>, round: &mut Round<'_, H, N>) -> Progress {
+        let gathered = mail.gather(self.session(), self.delivery, round);
+        let notes = round.notes;
         if !mail.frames.is_empty() {
             let len = mail.frames.len() as u64;
             if !self.sink.try_send(&mut mail.frames).unwrap_or(false) {
@@ -121,7 +122,7 @@ impl<H: Host> Line<H> {
             notes.count_of(self.session(), Count::Written, len);
         }
         if matches!(gathered, Progress::Done) {
-            if room.is_full_of(mail.taken) {
+            if round.room.is_full_of(mail.taken) {
                 return Progress::Stuck;
             }
             mail.taken = Load::none();

@@ -4,12 +4,13 @@ ghost use Rattle.std.specs.Prelude.{◌≡◌, [], IfNone, IsFalse, None};
 ghost use Rattle.tab_post.specs.Ends.{received};
 ghost use Rattle.tab_server.specs.Gathered.{Adds, Gathers};
 
+use crate::dispatcher::Round;
 use crate::events::is_long;
 use crate::gate::{Count, Notes};
 use std::alloc::Global;
 use tab_model::SharedItem;
 use tab_post::{Host, Inbox, Load};
-use tab_proto::{Delivery, append_item};
+use tab_proto::Delivery;
 use tab_sink::kept::KEPT;
 
 /// The thread that sends a connection's events.
@@ -70,20 +71,20 @@ impl<H: Host> Mail<H> {
     /// connection's own thread has to go on.
     pub fn gather<N: Notes>(
         &mut self,
-        host: &H,
         session: u32,
         delivery: Delivery,
-        notes: &N,
+        round: &mut Round<'_, H, N>,
     ) -> Progress
         ensures { IsFalse self.new.failed
             → Gathers delivery (received self.old.inbox) self.old.frames.items self.old.long
             (received self.new.inbox) self.new.frames.items self.new.long }
     {
+        let host = round.host;
         for _ in host.forever() {
             if self.frames.len() >= KEPT {
                 return Progress::More;
             }
-            if let Some(end) = self.take(session, delivery, notes) {
+            if let Some(end) = self.take(session, delivery, round) {
                 return end;
             }
         }
@@ -91,7 +92,12 @@ impl<H: Host> Mail<H> {
     }
 
     /// Takes an item from the inbox, and keeps its frames. Otherwise it returns why it does not.
-    fn take<N: Notes>(&mut self, session: u32, delivery: Delivery, notes: &N) -> Option<Progress>
+    fn take<N: Notes>(
+        &mut self,
+        session: u32,
+        delivery: Delivery,
+        round: &mut Round<'_, H, N>,
+    ) -> Option<Progress>
         ensures gathers { IsFalse self.new.failed
             → Gathers delivery (received self.old.inbox) self.old.frames.items self.old.long
             (received self.new.inbox) self.new.frames.items self.new.long }
@@ -103,15 +109,19 @@ impl<H: Host> Mail<H> {
             return Some(Progress::Done);
         };
         self.taken = self.taken.with(&item);
-        if is_long(item.item()) {
+        if is_long(&item) {
             self.long = Some(item);
             return Some(Progress::Stuck);
         }
-        if append_item(item.item(), delivery, &mut self.frames).is_err() {
+        if round
+            .last
+            .append(&item, delivery, &mut self.frames)
+            .is_err()
+        {
             self.failed = true;
             return Some(Progress::Stuck);
         }
-        notes.count_of(session, Count::Items, 1);
+        round.notes.count_of(session, Count::Items, 1);
         None
     }
 }

@@ -20,15 +20,15 @@ abbrev pub rest_bits : List Bool → List Bool
 rest_bits [] = []
 rest_bits (b ∷ bs) = bs
 
-abbrev pub given_by : ℕ → List Bool → Option (List ℕ) → List (List Item) → List Subscriber → List Subscriber
+abbrev pub given_by : {T : Type 0} → ℕ → List Bool → Option (List ℕ) → List (List Item) → List (Subscriber T) → List (Subscriber T)
 given_by n bs t items [] = []
 given_by n bs t items (s ∷ ss) = received n (first_bit bs) (first_of items) (unwatched t s) ∷ given_by n (rest_bits bs) t (rest_of items) ss
 
-abbrev pub refusing : List Bool → List Subscriber → List ℕ
+abbrev pub refusing : {T : Type 0} → List Bool → List (Subscriber T) → List ℕ
 refusing bs [] = []
 refusing bs (s ∷ ss) = joined_if (first_bit bs) s.number (refusing (rest_bits bs) ss)
 
-abbrev pub AreDecidedBy : List Bool → List (List Item) → List Subscriber → Type 0
+abbrev pub AreDecidedBy : {T : Type 0} → List Bool → List (List Item) → List (Subscriber T) → Type 0
 AreDecidedBy bs items [] = Unit {0}
 AreDecidedBy bs items (s ∷ ss) = IsDecided (first_bit bs) (first_of items) s.outbox × AreDecidedBy (rest_bits bs) (rest_of items) ss
 
@@ -38,7 +38,7 @@ abbrev Absent : List ℕ → List ℕ → Type 0
 Absent over [] = Unit {0}
 Absent over (m ∷ ms) = (has_session over m ≡ false) × Absent over ms
 
-abbrev Agree : List ℕ → List Bool → List Subscriber → Type 0
+abbrev Agree : {T : Type 0} → List ℕ → List Bool → List (Subscriber T) → Type 0
 Agree over bs [] = Unit {0}
 Agree over bs (s ∷ ss) = (has_session over s.number ≡ first_bit bs) × Agree over (rest_bits bs) ss
 
@@ -58,7 +58,7 @@ absent_if : (b : Bool) (m n : ℕ) (ns : List ℕ) → m < n → has_session ns 
 absent_if true m n ns lt h = ap₂ (λ x y. x || y) (ne_eqb n m (λ e. absurd (omega (arith, e)))) h
 absent_if false m n ns lt h = h
 
-absent_refusing : (m : ℕ) (bs : List Bool) (ss : List Subscriber) → AllAbove m (numbers ss) → has_session (refusing bs ss) m ≡ false
+absent_refusing : {T : Type 0} (m : ℕ) (bs : List Bool) (ss : List (Subscriber T)) → AllAbove m (numbers ss) → has_session (refusing bs ss) m ≡ false
 absent_refusing m bs [] h = refl
 absent_refusing m bs (s ∷ ss) h = absent_if (first_bit bs) m s.number (refusing (rest_bits bs) ss) h.0 (absent_refusing m (rest_bits bs) ss h.1)
 
@@ -67,14 +67,14 @@ absent_more before n [] h above = tt
 absent_more before n (m ∷ ms) h above =
     (absent_append before (n ∷ []) m h.0 (ap (λ a. a || false) (ne_eqb n m (λ e. absurd (omega (arith, e, above.0))))), absent_more before n ms h.1 above.1)
 
-agree_if : (b : Bool) (before : List ℕ) (bs : List Bool) (s : Subscriber) (ss : List Subscriber) → has_session before s.number ≡ false → has_session (refusing bs ss) s.number ≡ false
+agree_if : {T : Type 0} (b : Bool) (before : List ℕ) (bs : List Bool) (s : Subscriber T) (ss : List (Subscriber T)) → has_session before s.number ≡ false → has_session (refusing bs ss) s.number ≡ false
     → Agree ((before ++ s.number ∷ []) ++ refusing bs ss) bs ss → Agree (before ++ refusing bs ss) bs ss
     → (has_session (before ++ joined_if b s.number (refusing bs ss)) s.number ≡ b) × Agree (before ++ joined_if b s.number (refusing bs ss)) bs ss
 agree_if true before bs s ss h k last rest =
     (present_append before (refusing bs ss) s.number h, subst (λ o. Agree o bs ss) (append_assoc before (s.number ∷ []) (refusing bs ss)) last)
 agree_if false before bs s ss h k last rest = (absent_append before (refusing bs ss) s.number h k, rest)
 
-agree : (before : List ℕ) (bs : List Bool) (ss : List Subscriber) → Absent before (numbers ss) → Ascends (numbers ss) → Agree (before ++ refusing bs ss) bs ss
+agree : {T : Type 0} (before : List ℕ) (bs : List Bool) (ss : List (Subscriber T)) → Absent before (numbers ss) → Ascends (numbers ss) → Agree (before ++ refusing bs ss) bs ss
 agree before bs [] h up = tt
 agree before bs (s ∷ ss) h up =
     agree_if (first_bit bs) before (rest_bits bs) s ss h.0 (absent_refusing s.number (rest_bits bs) ss up.0)
@@ -85,29 +85,29 @@ absent_none : (ms : List ℕ) → Absent [] ms
 absent_none [] = tt
 absent_none (m ∷ ms) = (refl, absent_none ms)
 
-pub number-unwatched : (t : Option (List ℕ)) (s : Subscriber) → (unwatched t s).number ≡ s.number
+pub number-unwatched : {T : Type 0} (t : Option (List ℕ)) (s : Subscriber T) → (unwatched t s).number ≡ s.number
 number-unwatched None s = refl
 number-unwatched (Some t) s = refl
 
-pub number-received : (n : ℕ) (b : Bool) (items : List Item) (s : Subscriber) → (received n b items s).number ≡ s.number
+pub number-received : {T : Type 0} (n : ℕ) (b : Bool) (items : List Item) (s : Subscriber T) → (received n b items s).number ≡ s.number
 number-received n true items s = refl
 number-received n false items s = refl
 
-given_is : (n : ℕ) (over : List ℕ) (items : List Item) (s : Subscriber) (b : Bool) → has_session over s.number ≡ b → given n over items s ≡ received n b items s
+given_is : {T : Type 0} (n : ℕ) (over : List ℕ) (items : List Item) (s : Subscriber T) (b : Bool) → has_session over s.number ≡ b → given n over items s ≡ received n b items s
 given_is n over items s true h = λ j. if h j then overflowed n s else received n false items s
 given_is n over items s false h = λ j. if h j then overflowed n s else received n false items s
 
-by_session : (over : List ℕ) (bs : List Bool) (n : ℕ) (t : Option (List ℕ)) (items : List (List Item)) (ss : List Subscriber) → Agree over bs ss → given_by n bs t items ss ≡ given_all n over t items ss
+by_session : {T : Type 0} (over : List ℕ) (bs : List Bool) (n : ℕ) (t : Option (List ℕ)) (items : List (List Item)) (ss : List (Subscriber T)) → Agree over bs ss → given_by n bs t items ss ≡ given_all n over t items ss
 by_session over bs n t items [] a = refl
 by_session over bs n t items (s ∷ ss) a =
     ap₂ (λ x xs. x ∷ xs) (sym (given_is n over (first_of items) (unwatched t s) (first_bit bs) (ap (has_session over) (number-unwatched t s) ∙ a.0)))
     (by_session over (rest_bits bs) n t (rest_of items) ss a.1)
 
-who_refused : (over : List ℕ) (bs : List Bool) (ss : List Subscriber) → Agree over bs ss → refusing bs ss ≡ those_in over ss
+who_refused : {T : Type 0} (over : List ℕ) (bs : List Bool) (ss : List (Subscriber T)) → Agree over bs ss → refusing bs ss ≡ those_in over ss
 who_refused over bs [] a = refl
 who_refused over bs (s ∷ ss) a = ap₂ (λ b ns. joined_if b s.number ns) (sym a.0) (who_refused over (rest_bits bs) ss a.1)
 
-decided_by_session : (over : List ℕ) (bs : List Bool) (items : List (List Item)) (ss : List Subscriber) → Agree over bs ss → AreDecidedBy bs items ss → AreDecided over items ss
+decided_by_session : {T : Type 0} (over : List ℕ) (bs : List Bool) (items : List (List Item)) (ss : List (Subscriber T)) → Agree over bs ss → AreDecidedBy bs items ss → AreDecided over items ss
 decided_by_session over bs items [] a d = tt
 decided_by_session over bs items (s ∷ ss) a d =
     (subst (λ b. IsDecided b (first_of items) s.outbox) (sym a.0) d.0, decided_by_session over (rest_bits bs) (rest_of items) ss a.1 d.1)
@@ -115,20 +115,20 @@ decided_by_session over bs items (s ∷ ss) a d =
 -- ---- the loop
 
 -- the subscribers before place i have received theirs, and the others are still due what is due
-pub record IsUnderWay (n : ℕ) (t : Option (List ℕ)) (items : List (List Item)) (old : List Subscriber) (over : List ℕ) (due : List (List Item)) (now : List Subscriber) (i : ℕ) : Type 0 where
+pub record IsUnderWay {T : Type 0} (n : ℕ) (t : Option (List ℕ)) (items : List (List Item)) (old : List (Subscriber T)) (over : List ℕ) (due : List (List Item)) (now : List (Subscriber T)) (i : ℕ) : Type 0 where
   pub bits : List Bool
   pub given : (bs : List Bool) → given_by n (bits ++ bs) t items old ≡ take i now ++ given_by n bs t due (drop i now)
   pub over_is : (bs : List Bool) → refusing (bits ++ bs) old ≡ over ++ refusing bs (drop i now)
   pub decided : (bs : List Bool) → AreDecidedBy bs due (drop i now) → AreDecidedBy (bits ++ bs) items old
 
-pub none_yet : (n : ℕ) (t : Option (List ℕ)) (items : List (List Item)) (ss : List Subscriber) → IsUnderWay n t items ss [] items ss 0
+pub none_yet : {T : Type 0} (n : ℕ) (t : Option (List ℕ)) (items : List (List Item)) (ss : List (Subscriber T)) → IsUnderWay n t items ss [] items ss 0
 none_yet n t items ss = record { bits = []; given = λ bs. refl; over_is = λ bs. refl; decided = λ bs d. d }
 
 over_step : (b : Bool) (over : List ℕ) (m : ℕ) (later : List ℕ) → over ++ joined_if b m later ≡ (over ++ joined_if b m []) ++ later
 over_step true over m later = sym (append_assoc over (m ∷ []) later)
 over_step false over m later = sym (append_assoc over [] later)
 
-pub one_more_given : (n : ℕ) (t : Option (List ℕ)) (items : List (List Item)) (old : List Subscriber) (over : List ℕ) (due : List (List Item)) (now : List Subscriber) (i : ℕ) (s y : Subscriber) (b : Bool)
+pub one_more_given : {T : Type 0} (n : ℕ) (t : Option (List ℕ)) (items : List (List Item)) (old : List (Subscriber T)) (over : List ℕ) (due : List (List Item)) (now : List (Subscriber T)) (i : ℕ) (s y : Subscriber T) (b : Bool)
     → i < length now → s ≡ get_or now i s → y ≡ received n b (first_of due) (unwatched t s) → IsDecided b (first_of due) s.outbox
     → IsUnderWay n t items old over due now i → IsUnderWay n t items old (over ++ joined_if b s.number []) (rest_of due) (set now i y) (suc i)
 one_more_given n t items old over due now i s y b lt is new d way = record {
@@ -152,19 +152,19 @@ one_more_given n t items old over due now i s y b lt is new d way = record {
     from_here : drop i now ≡ s ∷ drop (suc i) now
     from_here = drop-cons now i s lt ∙ ap (λ z. z ∷ drop (suc i) now) (sym is)
 
-all_dropped : (ss : List Subscriber) (i : ℕ) → length ss ≤ i → drop i ss ≡ []
+all_dropped : {T : Type 0} (ss : List (Subscriber T)) (i : ℕ) → length ss ≤ i → drop i ss ≡ []
 all_dropped [] zero le = refl
 all_dropped [] (suc i) le = refl
 all_dropped (x ∷ ss) zero le = absurd (omega arith)
 all_dropped (x ∷ ss) (suc i) le = all_dropped ss i (omega arith)
 
-all_taken : (ss : List Subscriber) (i : ℕ) → length ss ≤ i → take i ss ≡ ss
+all_taken : {T : Type 0} (ss : List (Subscriber T)) (i : ℕ) → length ss ≤ i → take i ss ≡ ss
 all_taken [] zero le = refl
 all_taken [] (suc i) le = refl
 all_taken (x ∷ ss) zero le = absurd (omega arith)
 all_taken (x ∷ ss) (suc i) le = ap (λ vs. x ∷ vs) (all_taken ss i (omega arith))
 
-pub all_given : (expected : Owed) (old : List Subscriber) (over : List ℕ) (due : List (List Item)) (now : List Subscriber) (i : ℕ) → length now ≤ i → Ascends (numbers old)
+pub all_given : {T : Type 0} (expected : Owed) (old : List (Subscriber T)) (over : List ℕ) (due : List (List Item)) (now : List (Subscriber T)) (i : ℕ) → length now ≤ i → Ascends (numbers old)
     → IsUnderWay expected.number expected.ended expected.items old over due now i → Delivers expected old now over
 all_given expected old over due now i le up way = record {
   over_are = sym over_bits ∙ who_refused over way.bits old same;
@@ -186,7 +186,7 @@ all_given expected old over due now i le up way = record {
     bits_decided : AreDecidedBy way.bits expected.items old
     bits_decided = subst (λ z. AreDecidedBy z expected.items old) (append-nil way.bits) (way.decided [] (subst (AreDecidedBy [] due) (sym (all_dropped now i le)) tt))
 
-pub step : (n : ℕ) (t : Option (List ℕ)) (items : List (List Item)) (old : List Subscriber) (over : List ℕ) (due : List (List Item)) (now : List Subscriber) (i : ℕ) (s y : Subscriber) (b : Bool) (over' : List ℕ) (due' : List (List Item))
+pub step : {T : Type 0} (n : ℕ) (t : Option (List ℕ)) (items : List (List Item)) (old : List (Subscriber T)) (over : List ℕ) (due : List (List Item)) (now : List (Subscriber T)) (i : ℕ) (s y : Subscriber T) (b : Bool) (over' : List ℕ) (due' : List (List Item))
     → i < length now → s ≡ get_or now i s → y ≡ received n b (first_of due) (unwatched t s) → IsDecided b (first_of due) s.outbox
     → over' ≡ over ++ joined_if b s.number [] → due' ≡ rest_of due
     → IsUnderWay n t items old over due now i → IsUnderWay n t items old over' due' (set now i y) (i + 1)
@@ -196,9 +196,9 @@ step n t items old over due now i s y b over' due' lt is new d o r way =
     (subst (λ z. IsUnderWay n t items old (over ++ joined_if b s.number []) (rest_of due) (set now i y) z) (sym (add-one i))
     (one_more_given n t items old over due now i s y b lt is new d way)))
 
-pub same_numbers : (n : ℕ) (t : Option (List ℕ)) (items : List Item) (now : List Subscriber) (i : ℕ) (s y : Subscriber) (b : Bool) → s ≡ get_or now i s → y ≡ received n b items (unwatched t s) → numbers (set now i y) ≡ numbers now
+pub same_numbers : {T : Type 0} (n : ℕ) (t : Option (List ℕ)) (items : List Item) (now : List (Subscriber T)) (i : ℕ) (s y : Subscriber T) (b : Bool) → s ≡ get_or now i s → y ≡ received n b items (unwatched t s) → numbers (set now i y) ≡ numbers now
 same_numbers n t items now i s y b is new =
-    map-set_same (λ (v : Subscriber). v.number) now i y s (ap (λ (v : Subscriber). v.number) new ∙ number-received n b items (unwatched t s) ∙ number-unwatched t s ∙ ap (λ (v : Subscriber). v.number) is)
+    map-set_same (λ (v : Subscriber _). v.number) now i y s (ap (λ (v : Subscriber _). v.number) new ∙ number-received n b items (unwatched t s) ∙ number-unwatched t s ∙ ap (λ (v : Subscriber _). v.number) is)
 
 pub is_expected : (b : Bool) (o : Option Item) (x : Outbox) → IsDecided b (option_to_list o) x → b ≡ true → IsSome o
 is_expected b None x d e = absurd (false≢true (sym d ∙ e))

@@ -32,12 +32,12 @@ rest_of [] = []
 rest_of (x ∷ xs) = xs
 
 -- a subscriber without its subscription to the table that is gone, if one is
-abbrev pub unwatched : Option (List ℕ) → Subscriber → Subscriber
+abbrev pub unwatched : {T : Type 0} → Option (List ℕ) → Subscriber T → Subscriber T
 unwatched None s = s
 unwatched (Some t) s = record s { watching = without_watch s.watching t }
 
 -- who refused is in the first list
-abbrev pub given_all : ℕ → List ℕ → Option (List ℕ) → List (List Item) → List Subscriber → List Subscriber
+abbrev pub given_all : {T : Type 0} → ℕ → List ℕ → Option (List ℕ) → List (List Item) → List (Subscriber T) → List (Subscriber T)
 given_all n over t items [] = []
 given_all n over t items (s ∷ ss) = given n over (first_of items) (unwatched t s) ∷ given_all n over t (rest_of items) ss
 
@@ -47,7 +47,7 @@ IsDecided b [] o = b ≡ false
 IsDecided b (x ∷ xs) o = IfSome o.capacity (λ c. b ≡ nat_le c (length o.items))
 
 -- for each subscriber it is decided so whether it is in the list, by the items that are due to it
-abbrev pub AreDecided : List ℕ → List (List Item) → List Subscriber → Type 0
+abbrev pub AreDecided : {T : Type 0} → List ℕ → List (List Item) → List (Subscriber T) → Type 0
 AreDecided over items [] = Unit {0}
 AreDecided over items (s ∷ ss) = IsDecided (has_session over s.number) (first_of items) s.outbox × AreDecided over (rest_of items) ss
 
@@ -57,17 +57,17 @@ joined_if true n ns = n ∷ ns
 joined_if false n ns = ns
 
 -- the subscribers that are in the list, in their order
-abbrev pub those_in : List ℕ → List Subscriber → List ℕ
+abbrev pub those_in : {T : Type 0} → List ℕ → List (Subscriber T) → List ℕ
 those_in over [] = []
 those_in over (s ∷ ss) = joined_if (has_session over s.number) s.number (those_in over ss)
 
 -- what a delivery leaves, and who overflowed in it
-pub record Delivers (expected : Owed) (old new : List Subscriber) (over : List ℕ) : Type 0 where
+pub record Delivers {T : Type 0} (expected : Owed) (old new : List (Subscriber T)) (over : List ℕ) : Type 0 where
   pub over_are : over ≡ those_in over old
   pub given : new ≡ given_all expected.number over expected.ended expected.items old
   pub decided : AreDecided over expected.items old
 
 -- one subscriber after its item, which its post refused or not
-abbrev pub received : ℕ → Bool → List Item → Subscriber → Subscriber
+abbrev pub received : {T : Type 0} → ℕ → Bool → List Item → Subscriber T → Subscriber T
 received n true items s = overflowed n s
 received n false items s = record s { outbox = with_items s.outbox items }

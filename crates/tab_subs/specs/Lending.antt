@@ -3,15 +3,13 @@ use Rattle.std.specs.Prelude.{ℕ, List, Option}
 use Rattle.std.specs.Borrow.{Lends, MutBor, Fml, RattleType}
 use Rattle.std.specs.contracts.option.Option.{the_row as OptionOf}
 use Rattle.tab_outbox.specs.declared.post.Post.{Ghosts}
-use Rattle.tab_subs.specs.contracts.transaction.Transaction as transaction
 use Rattle.tab_subs.specs.contracts.session.Session as session
 use Rattle.tab_subs.specs.contracts.subs.Subs as subs
-use Rattle.tab_subs.specs.declared.transaction.Transaction.{Transaction}
 use Rattle.tab_subs.specs.Subscribers.{Subscriber, with_transaction_at}
 
-module _ (P : RattleType) (g : Ghosts P.Denot) where
-  abbrev pub lends_own : MutBor Subscriber → MutBor (Option Transaction) → Fml
-  lends_own s r = Lends (session.the_row P g) (OptionOf transaction.the_row) s r (λ w. record s.now { transaction = w })
+module _ (P T : RattleType) (g : Ghosts P.Denot) where
+  abbrev pub lends_own : MutBor (Subscriber T.Denot) → MutBor (Option T.Denot) → Fml
+  lends_own s r = Lends (session.the_row P T g) (OptionOf T) s r (λ w. record s.now { transaction = w })
 
-  abbrev pub lends_one : MutBor (List Subscriber) → ℕ → MutBor (Option Transaction) → Fml
-  lends_one s i r = Lends (subs.the_row P g) (OptionOf transaction.the_row) s r (with_transaction_at s.now i)
+  abbrev pub lends_one : MutBor (List (Subscriber T.Denot)) → ℕ → MutBor (Option T.Denot) → Fml
+  lends_one s i r = Lends (subs.the_row P T g) (OptionOf T) s r (with_transaction_at s.now i)

@@ -14,7 +14,6 @@ ghost use Rattle.tab_subs.specs.Subscribers.{fresh, take as take_of, marked, is_
 
 use crate::answers::{Marked, Taken};
 use crate::shaped::Shaped;
-use crate::transaction::Transaction;
 use crate::watched::{Watched, forget, level_of};
 use std::alloc::{AllocError, Global};
 use std::marker::Model;
@@ -26,23 +25,23 @@ use tab_term::Atom;
 
 /// A session: its open transaction, its subscriptions and its post.
 #[derive(Drop)]
-pub struct Session<P: Post> {
+pub struct Session<P: Post, T> {
     number: u32,
-    transaction: Option<Transaction>,
+    transaction: Option<T>,
     watching: Vec<Watched>,
     // The number of an overflow that the session has not taken yet.
     overflow: Option<u64>,
     post: P,
 }
 
-impl<P: Post> Model for Session<P> {
+impl<P: Post, T> Model for Session<P, T> {
     ghost use Rattle.std.specs.Coded.{codes};
     ghost use Rattle.tab_term.specs.Code.{term_code, terms_code, pairs_code};
     ghost use Rattle.tab_subs.specs.Subscribers.{Subscriber};
 
-    ghost Value = { Subscriber };
+    ghost Value = { Subscriber T };
 
-    ghost coded = { Prim.hlevel (codes, term_code, terms_code, pairs_code) };
+    ghost coded = { Prim.hlevel (codes, term_code, terms_code, pairs_code, T.code) };
 
     ghost view = { λ a.
         record {
@@ -54,11 +53,11 @@ impl<P: Post> Model for Session<P> {
         } };
 }
 
-impl<P: Post + Drop> Session<P> {
+impl<P: Post + Drop, T: Drop> Session<P, T> {
     ghost use Rattle.tab_subs.specs.Lending.{lends_own};
 
     /// A session that has just joined.
-    pub fn new(alloc: Global, number: u32, post: P) -> Session<P>
+    pub fn new(alloc: Global, number: u32, post: P) -> Session<P, T>
         ensures { result ≡ fresh number (P.outbox post) }
     {
         Session {
@@ -78,15 +77,15 @@ impl<P: Post + Drop> Session<P> {
     }
 
     /// Its open transaction, if there is one.
-    pub fn transaction(&self) -> &Option<Transaction>
+    pub fn transaction(&self) -> &Option<T>
         ensures { result.now ≡ self.now.transaction }
     {
         &self.transaction
     }
 
     /// Its open transaction, or the place for one.
-    pub fn transaction_mut(&mut self) -> &mut Option<Transaction>
-        ensures* lends { sem 𝓛 (lends_own P.row P.Post self.entry result) }
+    pub fn transaction_mut(&mut self) -> &mut Option<T>
+        ensures* lends { sem 𝓛 (lends_own P.row T.row P.Post self.entry result) }
         ensures value { result.now ≡ self.old.transaction }
     {
         &mut self.transaction
@@ -233,7 +232,7 @@ impl<P: Post + Drop> Session<P> {
     }
 }
 
-impl<P: Mailbox + Drop> Session<P> {
+impl<P: Mailbox + Drop, T: Drop> Session<P, T> {
     /// Takes one item more at the post's other end, or shows that all that was put is taken.
     pub fn meet(&mut self, end: &mut P::End) -> Met
         ensures same { self.new ≡ self.old }

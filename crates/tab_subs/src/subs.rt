@@ -15,7 +15,6 @@ use crate::only_event::OnlyEvent;
 use crate::prepared::{Prepared, next_due, with_room};
 use crate::session::Session;
 use crate::shaped::Shaped;
-use crate::transaction::Transaction;
 use std::alloc::{AllocError, Global};
 use std::collections::VecDeque;
 use std::marker::Model;
@@ -27,30 +26,30 @@ use tab_term::Atom;
 
 /// The joined sessions, in the order of their numbers.
 #[derive(Drop)]
-pub struct Subs<P: Post> {
-    sessions: Vec<Session<P>>,
+pub struct Subs<P: Post, T> {
+    sessions: Vec<Session<P, T>>,
 }
 
-impl<P: Post> Model for Subs<P> {
+impl<P: Post, T> Model for Subs<P, T> {
     ghost use Rattle.std.specs.Prelude.{List};
     ghost use Rattle.std.specs.Coded.{codes};
     ghost use Rattle.tab_term.specs.Code.{term_code, terms_code, pairs_code};
     ghost use Rattle.tab_subs.specs.Subscribers.{Subscriber, Ascends, numbers};
 
-    ghost Value = { List Subscriber };
+    ghost Value = { List (Subscriber T) };
 
-    ghost coded = { Prim.hlevel (codes, term_code, terms_code, pairs_code) };
+    ghost coded = { Prim.hlevel (codes, term_code, terms_code, pairs_code, T.code) };
 
     ghost view = { λ a. a.sessions.items };
 
     ghost invariant = { λ a. Ascends (numbers a.sessions.items) };
 }
 
-impl<P: Post + Drop> Subs<P> {
+impl<P: Post + Drop, T: Drop> Subs<P, T> {
     ghost use Rattle.tab_subs.specs.Lending.{lends_one};
 
     /// Nobody.
-    pub fn new(alloc: Global) -> Subs<P>
+    pub fn new(alloc: Global) -> Subs<P, T>
         ensures { result ≡ [] }
     {
         Subs {
@@ -105,7 +104,7 @@ impl<P: Post + Drop> Subs<P> {
     }
 
     /// The open transaction of the session at the place, if there is one.
-    pub fn transaction(&self, place: usize) -> &Option<Transaction>
+    pub fn transaction(&self, place: usize) -> &Option<T>
         requires { place < length self.now }
         ensures { result.now ≡ (slice_index_or self.now place nobody).transaction }
     {
@@ -113,9 +112,9 @@ impl<P: Post + Drop> Subs<P> {
     }
 
     /// The open transaction of the session at the place, or the place for one.
-    pub fn transaction_mut(&mut self, place: usize) -> &mut Option<Transaction>
+    pub fn transaction_mut(&mut self, place: usize) -> &mut Option<T>
         requires { place < length self.old }
-        ensures* lends { sem 𝓛 (lends_one P.row P.Post self.entry place result) }
+        ensures* lends { sem 𝓛 (lends_one P.row T.row P.Post self.entry place result) }
         ensures value { result.now ≡ (slice_index_or self.old place nobody).transaction }
     {
         self.sessions[place].transaction_mut()
@@ -330,7 +329,7 @@ impl<P: Post + Drop> Subs<P> {
     }
 }
 
-impl<P: Mailbox + Drop> Subs<P> {
+impl<P: Mailbox + Drop, T: Drop> Subs<P, T> {
     /// Takes one item more at the other end of the session's post, or shows that all that was put is taken. None of a
     /// session that isn't joined.
     pub fn meet(&mut self, session: u32, end: &mut P::End) -> Option<Met>

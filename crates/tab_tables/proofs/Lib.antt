@@ -2,4 +2,4 @@ pub mod EventLemmas
 pub mod ChangingLemmas
 pub mod InfoLemmas
 pub mod NamedLemmas
-pub mod UndoneLemmas
+pub mod OneTableLemmas

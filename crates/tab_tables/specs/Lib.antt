@@ -1,4 +1,4 @@
 pub mod Named
 pub mod Newer
+pub mod OneTable
 pub mod Redefines
-pub mod Undone

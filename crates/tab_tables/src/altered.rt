@@ -1,12 +1,12 @@
 //! A table that is changed in place.
 
-ghost use Rattle.tab_model.specs.Tables.{apply};
+ghost use Rattle.tab_model.specs.Tables.{apply, rows_after};
 ghost use Rattle.tab_model.specs.Catalogs.{with_rows};
-ghost use Rattle.tab_tables.specs.Undone.{put_back};
 
 use std::alloc::{AllocError, Global};
 use std::slice;
-use tab_index::{BareTable, IndexedTable, Standing};
+use std::sync::Wait;
+use tab_index::{BareTable, IndexedTable};
 use tab_map::{Map, Revise};
 use tab_records::Records;
 use tab_rows::Update;
@@ -46,36 +46,37 @@ impl<'a> Revise<BareTable> for Altered<'a> {
     }
 }
 
-/// The records of a table's key, put back.
+/// Changes of a table, in turn, or none of them.
 #[derive(Drop)]
-pub struct PutBack<'a> {
-    pub before: &'a Standing,
+pub struct AllAltered<'a, R: Wait> {
+    pub rt: &'a R,
+    pub updates: &'a [Update],
+    /// Records of the table that may be shared.
+    pub records: Option<&'a Map<Term, Records>>,
 }
 
-impl<'a> Revise<IndexedTable> for PutBack<'a> {
-    ghost becomes = { λ a table. put_back a.before.now table };
+impl<'a, R: Wait> Revise<IndexedTable> for AllAltered<'a, R> {
+    ghost becomes = { λ a table. with_rows table (rows_after table.def.kind table.rows a.updates.now) };
 
     fn revise(self, alloc: Global, table: &mut IndexedTable) -> Result<(), AllocError> {
-        table.restore(alloc, self.before)
+        table.change_all(self.rt, alloc, self.updates, self.records)
     }
 
     fn revised(self, alloc: Global, table: &IndexedTable) -> Result<IndexedTable, AllocError> {
-        let mut next = table.share(alloc)?;
-        next.restore(alloc, self.before)?;
-        Ok(next)
+        table.updated(alloc, self.updates, self.records)
     }
 }
 
-impl<'a> Revise<BareTable> for PutBack<'a> {
-    ghost becomes = { λ a table. put_back a.before.now table };
+impl<'a, R: Wait> Revise<BareTable> for AllAltered<'a, R> {
+    ghost becomes = { λ a table. with_rows table (rows_after table.def.kind table.rows a.updates.now) };
 
     fn revise(self, alloc: Global, table: &mut BareTable) -> Result<(), AllocError> {
-        table.restore(alloc, self.before)
+        table.change_all(self.rt, alloc, self.updates, self.records)
     }
 
     fn revised(self, alloc: Global, table: &BareTable) -> Result<BareTable, AllocError> {
         let mut next = table.share()?;
-        next.restore(alloc, self.before)?;
+        next.change_all(self.rt, alloc, self.updates, self.records)?;
         Ok(next)
     }
 }

@@ -5,17 +5,17 @@ ghost use Rattle.std.specs.Option.{option_copied};
 ghost use Rattle.tab_model.specs.Catalogs.{find, place, without as without_table};
 ghost use Rattle.tab_model.specs.Events.{change_all};
 ghost use Rattle.tab_model.specs.Operations.{change_catalog};
-ghost use Rattle.tab_tables.specs.Undone.{undone, all_undone};
+ghost use Rattle.tab_tables.specs.OneTable.{AreOf};
 
-use crate::altered::{Altered, PutBack};
-use crate::before::Before;
+use crate::altered::{AllAltered, Altered};
 use crate::catalog::Catalog;
 use crate::lender::Lender;
-use crate::tags::table_of_update;
+use crate::tags::{only_table, table_of_update};
 use std::alloc::{AllocError, Global};
 use std::marker::Model;
+use std::slice;
 use std::sync::Wait;
-use tab_index::{BareTable, Standing};
+use tab_index::BareTable;
 use tab_map::Map;
 use tab_rows::Update;
 use tab_term::Atom;
@@ -87,7 +87,8 @@ impl BareCatalog {
         })
     }
 
-    /// Makes the changes, in turn, in place. If memory for one is refused, those that were made are undone.
+    /// Makes the changes, in turn, or none of them. Those of one table are made in it, in place if `change_all` of the
+    /// table does so. Those of several are made in tables that share what does not change.
     pub fn update<R: Wait>(
         &mut self,
         rt: &R,
@@ -101,100 +102,50 @@ impl BareCatalog {
         if let [update] = updates {
             return self.change(alloc, update, lender);
         }
-        let mut stood = Vec::new(alloc);
-        if self.make_all(alloc, updates, lender, &mut stood).is_ok() {
-            return Ok(());
+        if let Some(name) = only_table(alloc, updates)? {
+            return self.change_table(rt, alloc, name, updates, lender);
         }
-        self.undo_all(rt, alloc, stood);
-        Err(AllocError)
+        *self = self.updated(alloc, updates, lender)?;
+        Ok(())
     }
 
-    // Makes the changes in place, and keeps the records that each replaces. An error leaves those that were made.
-    fn make_all(
+    // Makes changes of one table.
+    fn change_table<R: Wait>(
         &mut self,
+        rt: &R,
+        alloc: Global,
+        name: Atom,
+        updates: &[Update],
+        lender: &Lender<'_>,
+    ) -> Result<(), AllocError>
+        requires { AreOf name updates.now }
+        ensures ok { OnOk result (self.new ≡ change_all self.old updates.now) }
+        ensures err { OnErr result (self.new ≡ self.old) }
+    {
+        let records = lender.records(updates, &name);
+        let all = AllAltered {
+            rt,
+            updates,
+            records,
+        };
+        self.by_name.revise(alloc, name, all)?;
+        Ok(())
+    }
+
+    // Only the first change of a table makes a new version of it.
+    fn updated(
+        &self,
         alloc: Global,
         updates: &[Update],
         lender: &Lender<'_>,
-        stood: &mut Vec<Before>,
-    ) -> Result<(), AllocError>
-        ensures ok { OnOk result (self.new ≡ change_all self.old updates.now) }
-        ensures kept { all_undone self.new stood.new.items
-            ≡ all_undone self.old stood.old.items }
+    ) -> Result<BareCatalog, AllocError>
+        ensures { IfOk result (λ tables. tables ≡ change_all self.now updates.now) }
     {
+        let mut tables = self.share()?;
         for update in updates {
-            self.make(alloc, update, lender, stood)?;
+            tables.change(alloc, update, lender)?;
         }
-        Ok(())
-    }
-
-    // There is room for what is kept before the change is made, so that a change that is made is kept.
-    fn make(
-        &mut self,
-        alloc: Global,
-        update: &Update,
-        lender: &Lender<'_>,
-        stood: &mut Vec<Before>,
-    ) -> Result<(), AllocError>
-        ensures ok { OnOk result (self.new ≡ change_catalog self.old update.now) }
-        ensures kept { all_undone self.new stood.new.items
-            ≡ all_undone self.old stood.old.items }
-    {
-        stood.reserve(1)?;
-        let before = self.before(alloc, update)?;
-        self.change(alloc, update, lender)?;
-        stood.push_reserved(before);
-        Ok(())
-    }
-
-    // The records of a change's key.
-    fn before(&self, alloc: Global, update: &Update) -> Result<Before, AllocError>
-        ensures { IfOk result
-            (λ before. undone (change_catalog self.now update.now) before ≡ self.now) }
-    {
-        let table = table_of_update(alloc, update)?;
-        let key = update.copy_of_key(alloc)?;
-        match self.by_name.get(&table) {
-            Some(found) => {
-                let standing = found.standing(alloc, key)?;
-                Ok(Before { table, standing })
-            }
-            None => {
-                let standing = Standing::none(key);
-                Ok(Before { table, standing })
-            }
-        }
-    }
-
-    // The last first.
-    fn undo_all<R: Wait>(&mut self, rt: &R, alloc: Global, mut stood: Vec<Before>)
-        ensures { self.new ≡ all_undone self.old stood.items }
-    {
-        while let Some(before) = stood.pop() {
-            self.undo(rt, alloc, &before);
-        }
-    }
-
-    // The change took what was shared, so this takes memory only if nodes were merged or emptied; it is repeated until
-    // it has that.
-    fn undo<R: Wait>(&mut self, rt: &R, alloc: Global, before: &Before)
-        ensures { self.new ≡ undone self.old before.now }
-    {
-        for _ in rt.forever() {
-            if self.undo_once(alloc, before).is_ok() {
-                return;
-            }
-        }
-        unreachable!()
-    }
-
-    fn undo_once(&mut self, alloc: Global, before: &Before) -> Result<(), AllocError>
-        ensures ok { OnOk result (self.new ≡ undone self.old before.now) }
-        ensures err { OnErr result (self.new ≡ self.old) }
-    {
-        let name = before.table.try_clone(alloc)?;
-        let before = &before.standing;
-        self.by_name.revise(alloc, name, PutBack { before })?;
-        Ok(())
+        Ok(tables)
     }
 
     fn change(
@@ -207,7 +158,7 @@ impl BareCatalog {
         ensures err { OnErr result (self.new ≡ self.old) }
     {
         let name = table_of_update(alloc, update)?;
-        let records = lender.records(update, &name);
+        let records = lender.records(slice::from_ref(update), &name);
         self.by_name
             .revise(alloc, name, Altered { update, records })?;
         Ok(())

@@ -4,17 +4,17 @@ ghost use Rattle.tab_model.specs.Catalogs.{find, place, without as without_table
 ghost use Rattle.tab_model.specs.Events.{change_all};
 ghost use Rattle.tab_model.specs.Operations.{change_catalog};
 ghost use Rattle.tab_tables.specs.Named.{catalog_of};
-ghost use Rattle.tab_tables.specs.Undone.{undone, all_undone};
+ghost use Rattle.tab_tables.specs.OneTable.{AreOf};
 
-use crate::altered::{Altered, PutBack};
-use crate::before::Before;
+use crate::altered::{AllAltered, Altered};
 use crate::changing::Changing;
 use crate::lender::Lender;
-use crate::tags::table_of_update;
+use crate::tags::{only_table, table_of_update};
 use std::alloc::{AllocError, Global};
 use std::marker::Model;
+use std::slice;
 use std::sync::Wait;
-use tab_index::{IndexedTable, Standing};
+use tab_index::IndexedTable;
 use tab_map::{Iter, Map};
 use tab_rows::Update;
 use tab_term::Atom;
@@ -108,8 +108,8 @@ impl Catalog {
         changing.into_catalog(alloc)
     }
 
-    /// Makes the changes, in turn. Those of tables without indexes are made in place. The tables of others stay until memory
-    /// for all of them is there.
+    /// Makes the changes, in turn, or none of them. Those of one table are made in it, in place if `change_all` of the
+    /// table does so. Those of several are made in tables that share what does not change.
     pub fn update<R: Wait>(
         &mut self,
         rt: &R,
@@ -123,130 +123,33 @@ impl Catalog {
         if let [update] = updates {
             return self.change(alloc, update, lender);
         }
-        if self.have_no_indexes(alloc, updates)? {
-            return self.update_in_place(rt, alloc, updates, lender);
+        if let Some(name) = only_table(alloc, updates)? {
+            return self.change_table(rt, alloc, name, updates, lender);
         }
         *self = self.updated(alloc, updates, lender)?;
         Ok(())
     }
 
-    // Whether no table of these has an index. It decides only which way is taken.
-    fn have_no_indexes(&self, alloc: Global, updates: &[Update]) -> Result<bool, AllocError> {
-        for update in updates {
-            let name = table_of_update(alloc, update)?;
-            if let Some(table) = self.by_name.get(&name) {
-                if !table.def().indexes.items.is_empty() {
-                    return Ok(false);
-                }
-            }
-        }
-        Ok(true)
-    }
-
-    // If memory for one is refused, those that were made are undone.
-    fn update_in_place<R: Wait>(
+    // Makes changes of one table.
+    fn change_table<R: Wait>(
         &mut self,
         rt: &R,
         alloc: Global,
+        name: Atom,
         updates: &[Update],
         lender: &Lender<'_>,
     ) -> Result<(), AllocError>
+        requires { AreOf name updates.now }
         ensures ok { OnOk result (self.new ≡ change_all self.old updates.now) }
         ensures err { OnErr result (self.new ≡ self.old) }
     {
-        let mut stood = Vec::new(alloc);
-        if self.make_all(alloc, updates, lender, &mut stood).is_ok() {
-            return Ok(());
-        }
-        self.undo_all(rt, alloc, stood);
-        Err(AllocError)
-    }
-
-    // Makes the changes in place, and keeps the records that each replaces. An error leaves those that were made.
-    fn make_all(
-        &mut self,
-        alloc: Global,
-        updates: &[Update],
-        lender: &Lender<'_>,
-        stood: &mut Vec<Before>,
-    ) -> Result<(), AllocError>
-        ensures ok { OnOk result (self.new ≡ change_all self.old updates.now) }
-        ensures kept { all_undone self.new stood.new.items
-            ≡ all_undone self.old stood.old.items }
-    {
-        for update in updates {
-            self.make(alloc, update, lender, stood)?;
-        }
-        Ok(())
-    }
-
-    // There is room for what is kept before the change is made, so that a change that is made is kept.
-    fn make(
-        &mut self,
-        alloc: Global,
-        update: &Update,
-        lender: &Lender<'_>,
-        stood: &mut Vec<Before>,
-    ) -> Result<(), AllocError>
-        ensures ok { OnOk result (self.new ≡ change_catalog self.old update.now) }
-        ensures kept { all_undone self.new stood.new.items
-            ≡ all_undone self.old stood.old.items }
-    {
-        stood.reserve(1)?;
-        let before = self.before(alloc, update)?;
-        self.change(alloc, update, lender)?;
-        stood.push_reserved(before);
-        Ok(())
-    }
-
-    // The records of a change's key.
-    fn before(&self, alloc: Global, update: &Update) -> Result<Before, AllocError>
-        ensures { IfOk result
-            (λ before. undone (change_catalog self.now update.now) before ≡ self.now) }
-    {
-        let table = table_of_update(alloc, update)?;
-        let key = update.copy_of_key(alloc)?;
-        match self.by_name.get(&table) {
-            Some(found) => {
-                let standing = found.standing(alloc, key)?;
-                Ok(Before { table, standing })
-            }
-            None => {
-                let standing = Standing::none(key);
-                Ok(Before { table, standing })
-            }
-        }
-    }
-
-    // The last first.
-    fn undo_all<R: Wait>(&mut self, rt: &R, alloc: Global, mut stood: Vec<Before>)
-        ensures { self.new ≡ all_undone self.old stood.items }
-    {
-        while let Some(before) = stood.pop() {
-            self.undo(rt, alloc, &before);
-        }
-    }
-
-    // The change took what was shared, so this takes memory only if nodes were merged or emptied; it is repeated until
-    // it has that.
-    fn undo<R: Wait>(&mut self, rt: &R, alloc: Global, before: &Before)
-        ensures { self.new ≡ undone self.old before.now }
-    {
-        for _ in rt.forever() {
-            if self.undo_once(alloc, before).is_ok() {
-                return;
-            }
-        }
-        unreachable!()
-    }
-
-    fn undo_once(&mut self, alloc: Global, before: &Before) -> Result<(), AllocError>
-        ensures ok { OnOk result (self.new ≡ undone self.old before.now) }
-        ensures err { OnErr result (self.new ≡ self.old) }
-    {
-        let name = before.table.try_clone(alloc)?;
-        let before = &before.standing;
-        self.by_name.revise(alloc, name, PutBack { before })?;
+        let records = lender.records(updates, &name);
+        let all = AllAltered {
+            rt,
+            updates,
+            records,
+        };
+        self.by_name.revise(alloc, name, all)?;
         Ok(())
     }
 
@@ -260,7 +163,7 @@ impl Catalog {
         ensures err { OnErr result (self.new ≡ self.old) }
     {
         let name = table_of_update(alloc, update)?;
-        let records = lender.records(update, &name);
+        let records = lender.records(slice::from_ref(update), &name);
         self.by_name
             .revise(alloc, name, Altered { update, records })?;
         Ok(())

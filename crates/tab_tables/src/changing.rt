@@ -60,8 +60,9 @@ impl Changing {
             return Changing::started(alloc, catalog, &name, update, lender);
         };
         if table.def().name == name {
-            let records = lender.records(update, &name);
-            let table = table.applied(alloc, slice::from_ref(update), records)?;
+            let updates = slice::from_ref(update);
+            let records = lender.records(updates, &name);
+            let table = table.applied(alloc, updates, records)?;
             return Ok(Changing {
                 catalog,
                 newer: Some(table),
@@ -83,8 +84,9 @@ impl Changing {
     {
         let newer = match catalog.table(name) {
             Some(table) => {
-                let records = lender.records(update, name);
-                Some(table.updated(alloc, slice::from_ref(update), records)?)
+                let updates = slice::from_ref(update);
+                let records = lender.records(updates, name);
+                Some(table.updated(alloc, updates, records)?)
             }
             None => None,
         };

@@ -20,15 +20,28 @@ pub enum Lender<'a> {
 }
 
 impl<'a> Lender<'a> {
-    /// The records of the update's table, by key, if the update writes a record that has no entry of its own.
-    pub(crate) fn records(&self, update: &Update, name: &Atom) -> Option<&'a Map<Term, Records>> {
-        let Form::Change(Change::Write(_)) = update.form() else {
+    /// The records of the updates' table, by key, if one of them writes a record that has no entry of its own.
+    pub(crate) fn records(
+        &self,
+        updates: &[Update],
+        name: &Atom,
+    ) -> Option<&'a Map<Term, Records>> {
+        if !copies_records(updates) {
             return None;
-        };
+        }
         match self {
             Lender::None => None,
             Lender::Tables(tables) => Some(tables.table(name)?.records()),
             Lender::Overlay(overlay) => overlay.get(name),
         }
     }
+}
+
+fn copies_records(updates: &[Update]) -> bool {
+    for update in updates {
+        if let Form::Change(Change::Write(_)) = update.form() {
+            return true;
+        }
+    }
+    false
 }

@@ -7,7 +7,6 @@
 
 mod altered;
 mod bare;
-mod before;
 mod catalog;
 mod changing;
 mod event;

@@ -1,8 +1,10 @@
 //! The names of tables that records and changes carry.
 
-ghost use Rattle.std.specs.Prelude.{◌≡◌, IfOk};
+ghost use Rattle.std.specs.Prelude.{◌≡◌, IfOk, IfSome};
 ghost use Rattle.tab_term.specs.View.{term};
 ghost use Rattle.tab_model.specs.Operations.{tag as tag_of, table_of_change as table_of};
+ghost use Rattle.std.specs.List.{list_all};
+ghost use Rattle.tab_tables.specs.OneTable.{AreOf, is_of};
 
 use std::alloc::{AllocError, Global};
 use tab_model::Change;
@@ -17,6 +19,31 @@ pub fn table_of_update(alloc: Global, update: &Update) -> Result<Atom, AllocErro
         Form::Only(only) => copy_of_tag(alloc, only.row()),
         Form::Change(change) => table_of_change(alloc, change),
     }
+}
+
+/// The one table that all updates are made in. None if there are several tables, or no updates.
+pub(crate) fn only_table(alloc: Global, updates: &[Update]) -> Result<Option<Atom>, AllocError>
+    ensures { IfOk result (λ table. IfSome table (λ name. AreOf name updates.now)) }
+{
+    let Some(first) = updates.first() else {
+        return Ok(None);
+    };
+    let name = table_of_update(alloc, first)?;
+    if !are_of(alloc, &name, updates)? {
+        return Ok(None);
+    }
+    Ok(Some(name))
+}
+
+fn are_of(alloc: Global, name: &Atom, updates: &[Update]) -> Result<bool, AllocError>
+    ensures { IfOk result (λ are. are ≡ list_all (is_of name.now) updates.now) }
+{
+    for update in updates {
+        if table_of_update(alloc, update)? != *name {
+            return Ok(false);
+        }
+    }
+    Ok(true)
 }
 
 fn table_of_change(alloc: Global, change: &Change) -> Result<Atom, AllocError>

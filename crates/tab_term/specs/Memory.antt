@@ -22,3 +22,19 @@ abbrev mutual
   pub pair_memories : PlainPairs → ℕ
   pair_memories no_pair = 0
   pair_memories (one_pair k x ps) = memory k + memory x + pair_memories ps
+
+-- the bytes of an event's record or key, by the elements of its body; the records before are the table's
+abbrev pub record_memory : PlainTerms → ℕ
+record_memory (one_more tag (one_more what (one_more tid none))) = memory what
+record_memory (one_more tag (one_more table (one_more what others))) = memory what
+record_memory ts = 0
+
+-- the bytes of an event that no table has
+abbrev pub event_memory : PlainTerm → ℕ
+event_memory (tuple (one_more word (one_more (tuple body) none))) = record_memory body
+event_memory t = 0
+
+-- the bytes of these events
+abbrev pub event_memories : PlainTerms → ℕ
+event_memories none = 0
+event_memories (one_more t ts) = event_memory t + event_memories ts

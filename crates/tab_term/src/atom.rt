@@ -150,7 +150,7 @@ impl Ord for Atom {
     ghost matches_eq = { matches_bytes };
 
     fn cmp(&self, other: &Atom) -> Ordering {
-        self.as_str().as_bytes().cmp(other.as_str().as_bytes())
+        self.as_str().cmp(other.as_str())
     }
 }
 

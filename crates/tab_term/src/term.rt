@@ -30,7 +30,7 @@ pub enum Term {
 // An integer takes as much: an atom's text of more than 24 bytes would make each term half as large again.
 const _: () = prove!(size_of::<Term>() == 32);
 
-// A derived drop would be taken apart, variant by variant, at each exit of each function that holds a term.
+// A derived drop would be expanded, variant by variant, at each exit of each function that holds a term.
 impl Drop for Term {
     #[cycle(term)]
     fn drop(self) {

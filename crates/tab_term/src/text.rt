@@ -16,7 +16,7 @@ pub enum Text {
     Long(LongText),
 }
 
-// A derived drop would be taken apart, variant by variant, at each exit of each function that holds an atom.
+// A derived drop would be expanded, variant by variant, at each exit of each function that holds an atom.
 impl Drop for Text {
     fn drop(self) {
         match self {

@@ -55,7 +55,7 @@ impl Model for TxLevels {
     ghost invariant = { λ a. Rises 0 a.saved.items (length a.updates.items) };
 }
 
-// A derived Drop would be taken apart, field by field, at each exit of each caller.
+// A derived Drop would be expanded, field by field, at each exit of each caller.
 impl Drop for TxLevels {
     fn drop(self) {
         let TxLevels {

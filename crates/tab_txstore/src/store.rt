@@ -49,7 +49,7 @@ impl Model for TxStore {
         × IsCounted a.moves.items a.count };
 }
 
-// A derived Drop would be taken apart, field by field, at each exit of each caller.
+// A derived Drop would be expanded, field by field, at each exit of each caller.
 impl Drop for TxStore {
     fn drop(self) {
         let TxStore {

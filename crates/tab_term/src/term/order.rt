@@ -29,7 +29,8 @@ fn compare_atoms(x: &Atom, y: &Atom) -> Ordering
     ensures { result
         ≡ ordering_then (nat_cmp (length x.now) (length y.now)) (slice_cmp nat_cmp x.now y.now) }
 {
-    compare_bytes(x.as_str().as_bytes(), y.as_str().as_bytes())
+    let (x, y) = (x.as_str(), y.as_str());
+    x.len().cmp(&y.len()).then_with(|| x.cmp(y))
 }
 
 fn compare_signed(s: u8, a: &[u8], t: u8, b: &[u8]) -> Ordering

@@ -2,7 +2,8 @@ use Rattle.std.proofs.Common.{arith, ap, length}
 use Rattle.tab_term.specs.Canon.{canon}
 use Rattle.tab_term.specs.Data.{atom, list}
 use Rattle.tab_term.specs.View.{term}
-use Rattle.tab_lists.specs.EventTerms.{tag_word, tid, told}
+use Rattle.tab_lists.specs.EventTerms.{tag_word, told}
+use Rattle.tab_term.specs.Tuples.{tid}
 use Rattle.tab_etf.proofs.OutlinesLemmas.{five_length, triple_length}
 use Rattle.tab_etf.proofs.events.body_len.Goals as goal
 

@@ -2,7 +2,8 @@ use Rattle.std.proofs.Common.{ap, ◌∙◌}
 use Rattle.tab_term.specs.Canon.{canon}
 use Rattle.tab_term.specs.Data.{atom, list}
 use Rattle.tab_term.specs.View.{term}
-use Rattle.tab_lists.specs.EventTerms.{tag_word, tid}
+use Rattle.tab_lists.specs.EventTerms.{tag_word}
+use Rattle.tab_term.specs.Tuples.{tid}
 use Rattle.tab_etf.proofs.EventsSpelled.{atom_canon, list_canon}
 use Rattle.tab_etf.proofs.OutlinesLemmas.{writes_five}
 use Rattle.tab_etf.proofs.SharedElements.{list_fits}

@@ -2,7 +2,8 @@ use Rattle.std.proofs.Common.{arith, ap, codes, length, sym}
 use Rattle.tab_term.specs.Canon.{canon}
 use Rattle.tab_term.specs.Data.{atom, list}
 use Rattle.tab_term.specs.View.{term}
-use Rattle.tab_lists.specs.EventTerms.{event_body, tag_word, tid, told}
+use Rattle.tab_lists.specs.EventTerms.{event_body, tag_word, told}
+use Rattle.tab_term.specs.Tuples.{tid}
 use Rattle.tab_etf.proofs.OutlinesLemmas.{five_length, pair_canon, pair_length}
 use Rattle.tab_etf.proofs.WritingLemmas.{writes_as, writes_then}
 use Rattle.tab_etf.proofs.events.put_event.Goals as goal

@@ -3,7 +3,7 @@ use Rattle.tab_term.specs.declared.term.Term.{Term}
 use Rattle.tab_term.specs.Data.{list, none}
 use Rattle.tab_term.specs.Same.{same}
 use Rattle.tab_term.specs.View.{term, terms}
-use Rattle.tab_lists.specs.Elements.{nth}
+use Rattle.tab_term.specs.Tuples.{nth}
 use Rattle.tab_lists.proofs.condition.has_value.Goals as goal
 
 nth_there : (xs : List Term) (n : ℕ) (d : Term) → n < length xs → nth n (terms xs) ≡ term (get_or xs n d)

@@ -1,5 +1,5 @@
 use Rattle.std.proofs.Common.{◌+◌, refl, sym, ap, ◌∙◌, arith, Some, set}
-use Rattle.tab_subs.specs.declared.transaction.Transaction as kept
+use Rattle.tab_core.specs.declared.transaction.Transaction as kept
 use Rattle.tab_core.specs.Parts.{parts_of}
 use Rattle.tab_core.proofs.Numbers.{at_most, not_at_most}
 use Rattle.tab_core.proofs.Keeping as keep

@@ -7,7 +7,7 @@ use Rattle.tab_model.specs.declared.data.Reply.TheVariants as reply
 use Rattle.tab_core.specs.declared.queue.Request as request
 use Rattle.tab_core.specs.Parts.{parts_of, state_of}
 use Rattle.tab_core.specs.Works as works
-use Rattle.tab_subs.specs.Subscribers.{Subscriber}
+use Rattle.tab_core.specs.Joined.{Subscriber}
 use Rattle.tab_core.proofs.Answering as answering
 use Rattle.tab_core.proofs.Keeping.{the_session, parts, with_transaction}
 use Rattle.tab_core.proofs.LevelEnds as ending

@@ -1,5 +1,6 @@
 use Rattle.std.proofs.Common.{◌≡◌, ◌+◌, ◌<◌, min, ◌^◌, ◌-◌, drop}
-use Rattle.tab_lists.specs.EventTerms.{event_terms, event_memories}
+use Rattle.tab_lists.specs.EventTerms.{event_terms}
+use Rattle.tab_term.specs.Memory.{event_memories}
 use Rattle.tab_lists.proofs.events.EventTerms.memory.Given as goal
 
 -- the events that are left add the rest

@@ -1,6 +1,6 @@
 use Rattle.std.proofs.Common.{[], ◌-◌, length, refl, ap, sym, ◌∙◌, subst}
 use Rattle.tab_term.specs.View.{term}
-use Rattle.tab_model.specs.Tables.{at, delete, is_ordered}
+use Rattle.tab_model.specs.Tables.{at, delete}
 use Rattle.tab_rows.specs.Joined.{joined, IsKept}
 use Rattle.tab_rows.specs.Restored.{restored}
 use Rattle.tab_rows.proofs.Cells.{order_remove, ordered-joined, deleted}
@@ -28,8 +28,3 @@ pub returns-clause-deleted : goal.returns-clause-deleted
 returns-clause-deleted c =
     ap (λ rows. (c.self.inside.kind, rows)) (ap joined c.in_ok-remove.ensures.ok ∙ deleted c.self.inside.kind c.self.inside.records c.args.key.now c.self.invariant.order)
     ∙ ap (λ v. (v.0, delete v.1 (term c.args.key.now))) c.self.view_is
-
-pub returns-clause-ordered : goal.returns-clause-ordered
-returns-clause-ordered c =
-    let order = order_remove c.args.key.now c.self.inside.records c.self.invariant.order in
-    ap (λ es. is_ordered (joined es)) c.in_ok-remove.ensures.ok ∙ ordered-joined _ order.ascends order.keyed

@@ -1,5 +1,4 @@
 use Rattle.std.proofs.Common.{◌∙◌, refl, ap, subst, ℕ, List}
-use Rattle.tab_model.specs.declared.data.Item.{Item}
 use Rattle.tab_post.specs.Ends.{mailbox_of, received}
 use Rattle.tab_proto.specs.declared.events.Delivery.{Delivery}
 use Rattle.tab_proto.specs.Events.{sent_frames}
@@ -23,7 +22,7 @@ loop-preserved-in-Going g c =
     let first = received c.args.self.now.inbox.now in
     let old = c.loop.self in
     let new = c.keep.new.self in
-    let bytes = ap (λ (e : Delivery). sent_frames e c.item.result.now) c.loop.invariant.4 ∙ ap (λ (i : Item). sent_frames d i) c.item.ensures in
+    let bytes = ap (λ (e : Delivery). sent_frames e c.in-Going.item) c.loop.invariant.4 in
     let goes = subst (λ (r : List ℕ). Goes S B old.outlet old.frames.now.items new.outlet new.frames.now.items r) bytes c.in_ok-keep-in-Going.ensures.bytes in
     let taken = ap received c.keep.ensures.inbox ∙ c.in-Going.ensures.takes in (
       tt,

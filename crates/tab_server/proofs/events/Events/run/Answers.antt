@@ -1,5 +1,4 @@
 use Rattle.std.proofs.Common.{◌∙◌, refl, ap, subst, ℕ, List}
-use Rattle.tab_model.specs.declared.data.Item.{Item}
 use Rattle.tab_post.specs.Ends.{mailbox_of, received}
 use Rattle.tab_proto.specs.declared.events.Delivery.{Delivery}
 use Rattle.tab_proto.specs.Events.{sent_frames}
@@ -22,7 +21,7 @@ loop-preserved g c =
     let old = c.loop.self in
     let new = c.keep.new.self in
     let last = c.send_waiting.new.self in
-    let bytes = ap (λ (e : Delivery). sent_frames e c.item.result.now) c.loop.invariant.4 ∙ ap (λ (i : Item). sent_frames d i) c.item.ensures in
+    let bytes = ap (λ (e : Delivery). sent_frames e c.in-Some-receive.item) c.loop.invariant.4 in
     let goes = subst (λ (r : List ℕ). Goes S B old.outlet old.frames.now.items new.outlet new.frames.now.items r) bytes c.in_ok-keep.ensures.bytes in
     let taken = ap received c.keep.ensures.inbox ∙ c.in-Some-receive.ensures.next in
     let mailbox = ap mailbox_of c.keep.ensures.inbox ∙ c.in-Some-receive.ensures.stays.1 ∙ c.loop.invariant.2 in

@@ -1,5 +1,4 @@
-use Rattle.std.proofs.Common.{refl, ap, ◌∙◌, ◌++◌}
-use Rattle.tab_proto.specs.Events.{sent_frames}
+use Rattle.std.proofs.Common.{refl}
 use Rattle.tab_server.proofs.Gathering.{adds_none, adds_one, gathers_all, of_ok}
 use Rattle.tab_server.proofs.mail.Mail.take.Goals as goal
 
@@ -11,4 +10,4 @@ pub returns-clause-gathers : goal.returns-clause-gathers
 returns-clause-gathers g c whole =
     gathers_all c.args.delivery _ _ _ _ _ _
     (adds_one c.args.delivery _ _ _ _ c.in-Some.item c.in-Some.ensures.next
-    (of_ok c.append_item.result c.if-is_err.ensures.value c.append_item.ensures.ok ∙ ap (λ x. c.args.self.now.frames.items ++ sent_frames c.args.delivery x) c.item-2.ensures)) refl
+    (of_ok c.append.result c.if-is_err.ensures.value c.append.ensures)) refl

@@ -42,7 +42,7 @@ loop-slot-preserved-then-not-refused g c =
     record {
       same = same ∙ c.loop-slot.invariant.same;
       way = step n t c.args.prepared.items c.args.self.now c.loop-slot.over.items due c.loop-slot.slot-items c.loop-slot.slot-index s c.receive-refused.new.self b c.loop-slot.over.items (map option_to_list c.next_due.new.due.items)
-          (within _ _ _ c.loop-slot.auto.slot-items c.loop-slot-test.true) c.slot-item.is new (subst (λ (z : Subscriber). IsDecided b (first_of due) z.outbox) (sym c.slot-item.is) (subst (λ z. IsDecided b z stood.outbox) c.next_due.ensures.first c.receive-refused.ensures.decided))
+          (within _ _ _ c.loop-slot.auto.slot-items c.loop-slot-test.true) c.slot-item.is new (subst (λ (z : Subscriber _). IsDecided b (first_of due) z.outbox) (sym c.slot-item.is) (subst (λ z. IsDecided b z stood.outbox) c.next_due.ensures.first c.receive-refused.ensures.decided))
           (sym (ap (λ k. c.loop-slot.over.items ++ joined_if k s.number []) c.if-not-refused.true ∙ append-nil c.loop-slot.over.items)) c.next_due.ensures.rest c.loop-slot.invariant.way;
       room = omega (arith, c.next_due.ensures.no_more, c.loop-slot.invariant.room);
     }
@@ -60,11 +60,11 @@ loop-slot-preserved g c =
     let same = same_numbers n t (first_of due) c.loop-slot.slot-items c.loop-slot.slot-index s y b c.slot-item.is new in
     let decided = c.receive-refused.ensures.decided in
     let fewer = c.next_due.ensures.fewer (is_expected b c.next_due.result stood.outbox decided c.if-not-refused.false) in
-    let its = c.number.ensures ∙ ap (λ (v : Subscriber). v.number) new ∙ number-received n b (first_of due) (unwatched t s) ∙ number-unwatched t s in
+    let its = c.number.ensures ∙ ap (λ (v : Subscriber _). v.number) new ∙ number-received n b (first_of due) (unwatched t s) ∙ number-unwatched t s in
     record {
       same = same ∙ c.loop-slot.invariant.same;
       way = step n t c.args.prepared.items c.args.self.now c.loop-slot.over.items due c.loop-slot.slot-items c.loop-slot.slot-index s y b c.push_reserved.new.self.items (map option_to_list c.next_due.new.due.items)
-          (within _ _ _ c.loop-slot.auto.slot-items c.loop-slot-test.true) c.slot-item.is new (subst (λ (z : Subscriber). IsDecided b (first_of due) z.outbox) (sym c.slot-item.is) (subst (λ z. IsDecided b z stood.outbox) c.next_due.ensures.first decided))
+          (within _ _ _ c.loop-slot.auto.slot-items c.loop-slot-test.true) c.slot-item.is new (subst (λ (z : Subscriber _). IsDecided b (first_of due) z.outbox) (sym c.slot-item.is) (subst (λ z. IsDecided b z stood.outbox) c.next_due.ensures.first decided))
           (c.push_reserved.ensures.items ∙ ap (λ k. c.loop-slot.over.items ++ k ∷ []) its ∙ ap (λ k. c.loop-slot.over.items ++ joined_if k s.number []) (sym c.if-not-refused.false)) c.next_due.ensures.rest c.loop-slot.invariant.way;
       room = omega (arith, fewer, c.push_reserved.ensures.len, c.push_reserved.ensures.capacity, c.loop-slot.invariant.room);
     }

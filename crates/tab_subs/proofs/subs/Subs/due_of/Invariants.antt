@@ -8,5 +8,5 @@ use Rattle.tab_subs.proofs.subs.Subs.due_of.Given as goal
 abbrev pub invariant-loop-slot : goal.invariant-loop-slot
 invariant-loop-slot g l = record {
   same : l.shaped.items ≡ l.events;
-  due : map option_to_list l.due.items ++ map (λ (s : Subscriber). batch_for (level_in s.watching) l.commit l.events) (drop l.slot-index l.slot-items) ≡ map (λ (s : Subscriber). batch_for (level_in s.watching) l.commit l.events) l.slot-items;
+  due : map option_to_list l.due.items ++ map (λ (s : Subscriber _). batch_for (level_in s.watching) l.commit l.events) (drop l.slot-index l.slot-items) ≡ map (λ (s : Subscriber _). batch_for (level_in s.watching) l.commit l.events) l.slot-items;
 }

@@ -8,6 +8,6 @@ use Rattle.tab_subs.proofs.subs.Subs.due_of_one.Goals as goal
 
 pub returns : goal.returns
 returns g c =
-    let items = λ (ss : List Subscriber). map (λ (s : Subscriber). batch_for (level_in s.watching) c.args.commit (c.args.event.now ∷ [])) ss in
+    let items = λ (ss : List (Subscriber _)). map (λ (s : Subscriber _). batch_for (level_in s.watching) c.args.commit (c.args.event.now ∷ [])) ss in
     let due = all_made items (map option_to_list c.loop-slot.due.items) c.deref-slot-items.result.now c.loop-slot.slot-index refl c.loop-slot-test.false c.loop-slot.invariant.due in
     due ∙ ap items (c.deref-slot-items.ensures.value ∙ c.self.view_is)

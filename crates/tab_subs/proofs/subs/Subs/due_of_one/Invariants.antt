@@ -8,5 +8,5 @@ use Rattle.tab_subs.proofs.subs.Subs.due_of_one.Given as goal
 abbrev pub invariant-loop-slot : goal.invariant-loop-slot
 invariant-loop-slot g l = record {
   only : l.only ≡ (l.commit, l.event);
-  due : map option_to_list l.due.items ++ map (λ (s : Subscriber). batch_for (level_in s.watching) l.commit (l.event ∷ [])) (drop l.slot-index l.slot-items) ≡ map (λ (s : Subscriber). batch_for (level_in s.watching) l.commit (l.event ∷ [])) l.slot-items;
+  due : map option_to_list l.due.items ++ map (λ (s : Subscriber _). batch_for (level_in s.watching) l.commit (l.event ∷ [])) (drop l.slot-index l.slot-items) ≡ map (λ (s : Subscriber _). batch_for (level_in s.watching) l.commit (l.event ∷ [])) l.slot-items;
 }

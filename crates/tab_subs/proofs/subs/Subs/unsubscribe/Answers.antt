@@ -9,5 +9,5 @@ use Rattle.tab_subs.proofs.subs.Subs.unsubscribe.Goals as goal
 pub invariant_of-self-2 : goal.invariant_of-self-2
 invariant_of-self-2 g c =
     let s = c.index_mut.result.now in
-    let number = ap (λ (x : Subscriber). x.number) c.in_ok-marked.ensures.ok ∙ number-marked c.in_ok-marked.marked (without_watch s.watching c.args.table.now) (Ended c.args.table.now ending.Unsubscribed) s in
+    let number = ap (λ (x : Subscriber _). x.number) c.in_ok-marked.ensures.ok ∙ number-marked c.in_ok-marked.marked (without_watch s.watching c.args.table.now) (Ended c.args.table.now ending.Unsubscribed) s in
     ascends_set c.self.inside.sessions.items c.in-Some.place s c.unsubscribe.new.self c.index_mut.ensures.value number c.self.invariant

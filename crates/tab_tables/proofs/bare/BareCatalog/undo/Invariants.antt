@@ -1,6 +1,0 @@
-use Rattle.std.proofs.Common.{◌≡◌}
-use Rattle.tab_tables.proofs.bare.BareCatalog.undo.Given as goal
-
--- nothing is undone yet
-abbrev pub invariant-loop : goal.invariant-loop
-invariant-loop g l = l.self ≡ l.fn.self
