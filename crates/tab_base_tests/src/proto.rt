@@ -6,8 +6,8 @@ use std::alloc::{AllocError, Global};
 use std::test::Fail;
 use tab_etf::{EncodeFault, decode};
 use tab_lists::SharedTerms;
-use tab_model::{Command, Reply};
-use tab_proto::{append_reply, append_reply_within, command, term_of};
+use tab_model::{Ask, Command, Reply};
+use tab_proto::{append_reply, append_reply_within, command, command_in, request_in, term_of};
 use tab_term::{Term, Terms};
 
 /// Payloads of every command.
@@ -81,6 +81,42 @@ fn commands_are_read_and_told(rt: HostRuntime) -> Result<(), Fail> {
         assert!(rt; told_again(alloc, &held).is_none(), "line {line}");
     }
     Ok(())
+}
+
+/// The term of the command that is read straight from a payload.
+fn told_straight(alloc: Global, payload: &[u8]) -> Option<Term> {
+    let command = command_in(alloc, payload)?;
+    copied(alloc, &command).ok()
+}
+
+#[test]
+fn commands_are_read_from_their_bytes(rt: HostRuntime) -> Result<(), Fail> {
+    let alloc = rt.alloc();
+    for (line, payload) in COMMANDS.iter().enumerate() {
+        let held = decode(alloc, payload)?;
+        assert!(rt; told_straight(alloc, payload) == Some(held), "line {line}");
+    }
+    for (line, payload) in NO_COMMANDS.iter().enumerate() {
+        assert!(rt; told_straight(alloc, payload).is_none(), "line {line}");
+    }
+    Ok(())
+}
+
+/// Payloads that are no request of the form that is read straight: session 0, a word that is no command, a byte more.
+static NO_REQUESTS: [&[u8]; 3] = [
+    b"\x83h\x02a\0w\x05begin",
+    b"\x83h\x02a\x07w\x05leave",
+    b"\x83h\x02a\x07w\x05beginj",
+];
+
+#[test]
+fn requests_are_read_from_their_bytes(rt: HostRuntime) {
+    let alloc = rt.alloc();
+    let begin = request_in(alloc, b"\x83h\x02a\x07w\x05begin");
+    assert!(rt; matches!(begin, Some((7, Ask::Do(Command::Begin)))));
+    for (line, payload) in NO_REQUESTS.iter().enumerate() {
+        assert!(rt; request_in(alloc, payload).is_none(), "line {line}");
+    }
 }
 
 /// The bytes before a reply that is appended.

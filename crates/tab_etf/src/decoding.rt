@@ -171,7 +171,7 @@ fn behind_of(
 
 #[cycle(read)]
 #[tactic(auto, unfolding(crate::specs::Reading::term_at))]
-fn term_of(alloc: Global, levels: usize, bytes: &[u8]) -> Result<(Term, &[u8]), ReadError>
+pub fn term_of(alloc: Global, levels: usize, bytes: &[u8]) -> Result<(Term, &[u8]), ReadError>
     ensures { Gives (λ x. (term x.0, x.1.now)) result (term_at levels bytes.now) }
 {
     match bytes {

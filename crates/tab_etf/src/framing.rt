@@ -5,8 +5,12 @@ ghost use Rattle.tab_etf.specs.declared.framing.FrameFault.TheVariants.{Device, 
 ghost use Rattle.tab_etf.specs.Frames.{payload_of, IsTold};
 
 use crate::device::Broken;
+use smallvec::SmallVec;
 use std::alloc::{AllocError, AllocFailed, Global};
 use thiserror::Error;
+
+/// A payload of at most so many bytes takes no allocation.
+pub(crate) const SHORT: usize = 96;
 
 /// The contents of a frame.
 #[derive(Debug, Drop)]
@@ -14,7 +18,7 @@ pub enum Frame {
     /// A payload of no bytes.
     Empty,
     /// A payload of at least one byte.
-    Payload(Vec<u8>),
+    Payload(SmallVec<u8, SHORT>),
 }
 
 /// The reason that a frame was not read or written.
@@ -51,8 +55,18 @@ impl From<Broken> for FrameFault {
 }
 
 impl Frame {
+    /// The bytes of the payload.
+    pub fn payload(&self) -> &[u8]
+        ensures { result.now ≡ payload_of self.now }
+    {
+        match self {
+            Frame::Empty => &[],
+            Frame::Payload(payload) => payload.as_slice(),
+        }
+    }
+
     /// The frame of these bytes, which it keeps.
-    pub(crate) fn from_vec(payload: Vec<u8>) -> Frame
+    pub(crate) fn from_vec(payload: SmallVec<u8, SHORT>) -> Frame
         ensures payload { payload_of result ≡ payload.items }
         ensures told { IsTold result }
     {
@@ -70,6 +84,6 @@ impl Frame {
         if payload.is_empty() {
             return Ok(Frame::Empty);
         }
-        Ok(Frame::Payload(Vec::from_slice(alloc, payload)?))
+        Ok(Frame::Payload(SmallVec::from_slice(alloc, payload)?))
     }
 }

@@ -6,8 +6,9 @@ ghost use Rattle.tab_etf.specs.Arrivals.{ReadsFrame, ReadsPayload, CountsFaults}
 ghost use Rattle.tab_etf.specs.Frames.{IsTold};
 
 use crate::device::{Broken, Source};
-use crate::framing::{Frame, FrameFault};
+use crate::framing::{Frame, FrameFault, SHORT};
 use crate::splitting::LIMIT;
+use smallvec::SmallVec;
 use std::alloc::Global;
 
 /// The most bytes of a payload that are read at once.
@@ -36,7 +37,7 @@ fn fill<R: Source>(reader: &mut R, buf: &mut [u8]) -> Result<usize, Broken>
 }
 
 /// Adds bytes to those that are kept, unless some are lost, and returns whether some are lost then.
-fn keep(kept: &mut Vec<u8>, lost: bool, bytes: &[u8]) -> bool
+fn keep(kept: &mut SmallVec<u8, SHORT>, lost: bool, bytes: &[u8]) -> bool
     ensures { IsFalse result → (IsFalse lost) × (kept.new.items ≡ kept.old.items ++ bytes.now) }
 {
     if lost {
@@ -51,7 +52,7 @@ fn read_payload<R: Source>(alloc: Global, reader: &mut R, count: usize) -> Resul
     ensures told { IfOk result IsTold }
     ensures faults { CountsFaults result (R.faults reader.old) (R.faults reader.new) }
 {
-    let mut payload = Vec::new(alloc);
+    let mut payload = SmallVec::new(alloc);
     let mut lost = false;
     let mut left = count;
     let mut chunk = [0; CHUNK];

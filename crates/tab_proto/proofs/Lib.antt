@@ -1,5 +1,6 @@
 pub mod Arity
 pub mod CommandTerms
+pub mod DirectLemmas
 pub mod EventsLemmas
 pub mod Outermost
 pub mod PartsLemmas

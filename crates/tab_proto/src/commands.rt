@@ -1,12 +1,12 @@
 //! Commands from terms.
 
 ghost use Rattle.std.specs.Prelude.{◌≡◌, ◌≢◌, ◌&&◌, IfOk, OnErr, IsTrue, Err, nat_le, pos, codes, IsFalse};
-ghost use Rattle.tab_term.specs.Data.{int, atom, pair, triple, is_list};
+ghost use Rattle.tab_term.specs.Data.{int, atom, tuple, one_more, pair, triple, is_list};
 ghost use Rattle.tab_term.specs.View.{term};
 ghost use Rattle.tab_model.specs.declared.data.Command.{Command as CommandOf};
 ghost use Rattle.tab_proto.specs.Commands.{term_of, is_command, item_word, level_word, watch_term};
 ghost use Rattle.tab_proto.specs.FirstWords.{unary_in, binary_in};
-ghost use Rattle.tab_proto.specs.Reading.{is_command_term, is_one_word, is_unary, is_binary, is_watch, is_dump, is_level, is_item, is_retries, is_parts_list, is_one_shot_term, Spells, FailsOnlyIf};
+ghost use Rattle.tab_proto.specs.Reading.{is_command_term, is_one_word, is_unary, is_binary, is_watch, is_dump, is_level, is_item, is_retries, is_parts_list, is_one_shot_term, is_call, argument_terms, Spells, FailsOnlyIf};
 ghost use Rattle.tab_proto.specs.declared.fault.ProtoFault.TheVariants.{BadCommand};
 
 use crate::arguments::{attribute_of, elements_of, name_of};
@@ -38,34 +38,46 @@ pub fn read_command(alloc: Global, held: Term) -> Result<Command, ProtoFault>
         (IsTrue (is_one_shot_term (term held))) result }
 {
     if let Term::Atom(word) = &held {
-        return Ok(one_word(word)?);
+        return Ok(one_word(word.as_str())?);
     }
     let Call { word, arguments } = call_of(held)?;
+    command_of(alloc, word.as_str(), arguments)
+}
+
+/// The command of a word and its arguments.
+pub fn command_of(alloc: Global, word: &str, arguments: Arguments) -> Result<Command, ProtoFault>
+    ensures ok { IfOk result
+        (λ c. Spells c (tuple (one_more (atom word.now) (argument_terms arguments)))) }
+    ensures fails { FailsOnlyIf
+        (IsFalse (is_call (one_more (atom word.now) (argument_terms arguments))))
+        (IsTrue (is_one_shot_term (tuple (one_more (atom word.now) (argument_terms arguments))))) result }
+{
     match arguments {
-        Arguments::One(argument) => Ok(unary(&word, argument)?),
-        Arguments::Two(first, second) => binary(alloc, &word, first, second),
+        Arguments::One(argument) => Ok(unary(word, argument)?),
+        Arguments::Two(first, second) => binary(alloc, word, first, second),
         Arguments::Three(table, value, attribute) => {
-            Ok(Command::Do(index_operation(&word, table, value, attribute)?))
+            Ok(Command::Do(index_operation(word, table, value, attribute)?))
         }
     }
 }
 
-fn one_word(word: &Atom) -> Result<Command, NoCommand>
+/// The command of a single word.
+pub fn one_word(word: &str) -> Result<Command, NoCommand>
     ensures ok { IfOk result (λ c. Spells c (atom word.now)) }
     ensures bad { OnErr result (IsFalse (is_one_word word.now)) }
 {
-    match word.as_str() {
+    match word {
         "begin" => Ok(Command::Begin),
         "commit" => Ok(Command::Commit),
         _ => Err(NoCommand),
     }
 }
 
-fn unary(word: &Atom, argument: Term) -> Result<Command, NoCommand>
+fn unary(word: &str, argument: Term) -> Result<Command, NoCommand>
     ensures ok { IfOk result (λ c. Spells c (pair (atom word.now) (term argument))) }
     ensures bad { OnErr result (IsFalse (is_unary (unary_in word.now) (term argument))) }
 {
-    match unary_of(word.as_str()) {
+    match unary_of(word) {
         Some(Unary::Abort) => Ok(Command::Abort(argument)),
         Some(Unary::DeleteTable) => Ok(Command::Schema(Schema::Remove(name_of(argument)?))),
         Some(Unary::Subscribe) => {
@@ -109,13 +121,13 @@ fn level_of(held: &Term) -> Result<Level, NoCommand>
     }
 }
 
-fn binary(alloc: Global, word: &Atom, first: Term, second: Term) -> Result<Command, ProtoFault>
+fn binary(alloc: Global, word: &str, first: Term, second: Term) -> Result<Command, ProtoFault>
     ensures ok { IfOk result (λ c. Spells c (triple (atom word.now) (term first) (term second))) }
     ensures fails { FailsOnlyIf
         (IsFalse (is_binary (binary_in word.now) (term first) (term second)))
         (IsTrue (is_one_shot_term (triple (atom word.now) (term first) (term second)))) result }
 {
-    match binary_of(word.as_str()) {
+    match binary_of(word) {
         Some(Binary::AddTableIndex) => Ok(Command::Schema(Schema::AddIndex(
             name_of(first)?,
             attribute_of(second)?,

@@ -7,6 +7,7 @@ mod building;
 mod call;
 mod command_terms;
 mod commands;
+mod direct;
 mod events;
 mod fault;
 mod first_words;
@@ -20,6 +21,7 @@ mod telling;
 
 pub use command_terms::term_of;
 pub use commands::{command, read_command};
+pub use direct::{command_in, request_in};
 pub use events::{Delivery, append_item, append_overflow, write_item};
 pub use fault::ProtoFault;
 pub use laws::requests_are_apart;

@@ -53,7 +53,7 @@ pub fn read_operation(word: &Atom, table: Term, key: Term) -> Result<Operation, 
 
 /// `{index_read, Tab, Value, Attr}`.
 pub fn index_operation(
-    word: &Atom,
+    word: &str,
     table: Term,
     value: Term,
     attribute: Term,
@@ -62,7 +62,7 @@ pub fn index_operation(
         (λ o. SpellsOperation o (four (atom word.now) (term table) (term value) (term attribute))) }
     ensures bad { OnErr result (IsFalse (is_ternary word.now (term table) (term attribute))) }
 {
-    if word.as_str() != "index_read" {
+    if word != "index_read" {
         return Err(NoCommand);
     }
     let table = name_of(table)?;

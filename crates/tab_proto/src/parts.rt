@@ -39,7 +39,7 @@ fn push_part(member: Term, parts: &mut Vec<Part>) -> Result<(), ProtoFault>
         Arguments::One(argument) => push_unary(&word, argument, parts),
         Arguments::Two(table, key) => push(Part::Do(read_operation(&word, table, key)?), parts),
         Arguments::Three(table, value, attribute) => push(
-            Part::Do(index_operation(&word, table, value, attribute)?),
+            Part::Do(index_operation(word.as_str(), table, value, attribute)?),
             parts,
         ),
     }

@@ -44,7 +44,8 @@ pub fn session_of(held: &Term) -> Option<u32>
     }
 }
 
-fn session_number(number: i128) -> Option<u32>
+/// A session's number.
+pub fn session_number(number: i128) -> Option<u32>
     ensures some { IfSome result (λ n. (number ≡ pos n) × IsSession n) }
     ensures none { IfNone result ((n : ℕ) → IsSession n → number ≢ pos n) }
 {

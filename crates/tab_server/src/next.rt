@@ -90,10 +90,7 @@ fn length_at(bytes: &[u8]) -> Option<u32>
 pub fn is_abort_in(alloc: Global, frame: &Frame) -> bool
     ensures { IsTrue result → IsAbort (payload_of frame.now) }
 {
-    match frame {
-        Frame::Empty => false,
-        Frame::Payload(payload) => is_abort(alloc, payload),
-    }
+    is_abort(alloc, frame.payload())
 }
 
 /// Returns whether a payload is the term of an abort. One for whose term there is no memory is none.

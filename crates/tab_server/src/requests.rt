@@ -34,7 +34,7 @@ use tab_book::{Held, Seat, Shared};
 use tab_etf::{EtfFault, Frame, FrameFault, decode};
 use tab_model::{Command, Reply, SharedReply};
 use tab_post::Host;
-use tab_proto::{ProtoFault, read_command};
+use tab_proto::{ProtoFault, command_in, read_command};
 use tab_term::{Term, Terms};
 
 /// The largest piece that is read at once.
@@ -454,26 +454,10 @@ impl<'a, H: Host, O: Outlet, G: Gate> Requests<'a, H, O, G> {
         ensures seat { self.new.seat ≡ self.old.seat }
     {
         self.answers.begin();
-        let Some(told) = self.reply_to_frame(frame, next) else {
+        let Some(told) = self.payload(frame.payload(), next) else {
             return Ok(());
         };
         self.answers.keep(told.reply())
-    }
-
-    /// Replies to a frame. Returns None if an abort has ended its wait.
-    #[tactic(auto, unfolding(tab_etf::specs::Reading::whole))]
-    fn reply_to_frame(&mut self, frame: &Frame, next: Option<&Frame>) -> Option<SharedReply>
-        ensures reply { MatchOption result
-            (IsEnded self.old.seat self.old.held.seen (payload_of frame.now) self.new.held.seen)
-            (λ r. IsPayloadReply self.old.seat self.old.held.seen (payload_of frame.now) r
-            self.new.held.seen) }
-        ensures seat { self.new.seat ≡ self.old.seat }
-        ensures sends { Sends O.sent O.broken self.old.answers self.new.answers [] }
-    {
-        match frame {
-            Frame::Empty => Some(SharedReply::new(Reply::BadTerm)),
-            Frame::Payload(payload) => self.payload(payload, next),
-        }
     }
 
     /// Replies to a payload. `next` is the frame after it, if it has come. Returns None if an abort has ended its wait.
@@ -485,6 +469,9 @@ impl<'a, H: Host, O: Outlet, G: Gate> Requests<'a, H, O, G> {
         ensures seat { self.new.seat ≡ self.old.seat }
         ensures sends { Sends O.sent O.broken self.old.answers self.new.answers [] }
     {
+        if let Some(command) = command_in(self.alloc, payload) {
+            return self.command(command, payload, next);
+        }
         let held = match decode(self.alloc, payload) {
             Ok(held) => held,
             Err(EtfFault::At(_, _)) => return Some(SharedReply::new(Reply::BadTerm)),

@@ -6,6 +6,7 @@ ghost use Rattle.tab_etf.specs.Reading.{whole};
 ghost use Rattle.tab_model.specs.declared.ask.Ask.TheVariants.{Join, Do as DoCommand};
 ghost use Rattle.tab_core.specs.Runs.{ask_of};
 ghost use Rattle.tab_outbox.specs.Posts.{as_outbox};
+ghost use Rattle.tab_proto.specs.Requests.{IsRequest, IsSession, request_term};
 ghost use Rattle.tab_oneshot.specs.OneShots.{is_one_shot as is_one_shot_command};
 ghost use Rattle.tab_session.specs.StepsMade.{IsJoinRefused, JoinTakesMemory, StepMadeOrRefused};
 ghost use Rattle.tab_session.specs.AnsweredPayloads.{IsNumberOf, Answered, AnsweredTerm, RefusedTerm, RepliesTo, answer_frame, empty_post};
@@ -21,7 +22,9 @@ use tab_core::{Core, Step, Stepped};
 use tab_etf::{EtfFault, FrameFault, Target, decode};
 use tab_model::{Ask, Command, Limit, Reply, SharedReply};
 use tab_outbox::RingPost;
-use tab_proto::{ProtoFault, append_reply_within, read_request, session_of, write_reply};
+use tab_proto::{
+    ProtoFault, append_reply_within, read_request, request_in, session_of, write_reply,
+};
 use tab_term::Term;
 
 /// Answers a payload: what is no term is BadTerm under 0, and a term that asks nothing is BadCommand, under the number in
@@ -35,8 +38,12 @@ pub fn answer<R: AllocGlobal + Wait>(
 ) -> PayloadReply
     ensures { Answered outbox core.old payload.now result core.new }
 {
+    let asked = Payload { rt, bytes: payload };
+    if let Some((session, request)) = request_in(rt.alloc(), payload) {
+        return answer_request(core, outbox, &asked, session, request);
+    }
     match decode(rt.alloc(), payload) {
-        Ok(held) => answer_to(core, outbox, &Payload { rt, bytes: payload }, held),
+        Ok(held) => answer_to(core, outbox, &asked, held),
         Err(EtfFault::At(_, _)) => PayloadReply {
             session: 0,
             reply: SharedReply::new(Reply::BadTerm),
@@ -45,6 +52,26 @@ pub fn answer<R: AllocGlobal + Wait>(
             session: 0,
             reply: SharedReply::new(Reply::NoMemory),
         },
+    }
+}
+
+/// Answers the request that a payload is.
+fn answer_request<R: AllocGlobal + Wait>(
+    core: &mut Core<RingPost>,
+    outbox: usize,
+    payload: &Payload<'_, R>,
+    session: u32,
+    request: Ask<()>,
+) -> PayloadReply
+    requires read { whole payload.now.bytes.now ≡ Ok (request_term session request) }
+    requires session { IsSession session }
+    requires formed { IsRequest request }
+    ensures { AnsweredTerm outbox core.old (request_term session request) result core.new
+        ⊎ RefusedTerm outbox core.old (request_term session request) result core.new }
+{
+    PayloadReply {
+        session,
+        reply: reply_to(core, outbox, payload, session, request),
     }
 }
 

@@ -2,7 +2,7 @@
 
 ghost use Rattle.std.specs.Prelude.{◌≡◌, ◌+◌, ◌<◌, ◌≤◌, ℕ, List, Option, [], None, IsTrue, length, OnOk};
 ghost use Rattle.std.specs.Io.KnownBytes.{Consumes};
-ghost use Rattle.tab_etf.specs.Frames.{contents, payload_of};
+ghost use Rattle.tab_etf.specs.Frames.{contents};
 ghost use Rattle.tab_etf.specs.Streams.{payloads};
 ghost use Rattle.tab_session.specs.Replays.{IsReplaying, Advances, Handed, Served, OneFault, HasFlushed};
 
@@ -18,15 +18,6 @@ const KEPT: usize = 65_536;
 
 /// A frame of more bytes is written by itself.
 const LONG: usize = 4 * KEPT;
-
-fn payload_in(frame: &Frame) -> &[u8]
-    ensures { result.now ≡ payload_of frame.now }
-{
-    match frame {
-        Frame::Empty => &[],
-        Frame::Payload(payload) => payload,
-    }
-}
 
 /// Buffers the frame of a reply until there are enough to be written at once. If it is long, or memory for it is
 /// refused, the buffer is written, and then this frame by itself.
@@ -66,7 +57,7 @@ fn serve_all<H: AllocGlobal + Wait, W: Target>(
 {
     let mut buffer = Vec::new(rt.alloc());
     for frame in frames {
-        let answer = answer(rt, core, outbox, payload_in(frame));
+        let answer = answer(rt, core, outbox, frame.payload());
         put(&answer, &mut buffer, output)?;
     }
     give_all(output, &buffer)?;

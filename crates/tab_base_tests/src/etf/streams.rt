@@ -27,7 +27,7 @@ fn push_frame(out: &mut Vec<u8>, payload: &[u8]) -> Result<(), AllocError> {
 fn push_read(out: &mut Vec<u8>, frame: &Frame) -> Result<(), AllocError> {
     match frame {
         Frame::Empty => push_frame(out, &[]),
-        Frame::Payload(payload) => push_frame(out, payload),
+        Frame::Payload(payload) => push_frame(out, payload.as_slice()),
     }
 }
 

@@ -9,12 +9,12 @@ loop-frame-init g c = record { serving = rw c.new-buffer.ensures.items (serving_
 pub returns-in_err-put-clause-served : goal.returns-in_err-put-clause-served
 returns-in_err-put-clause-served g c =
     let p = err_from_is_err_and c.from_residual.result c.from_residual.ensures.1 in
-    let here = serving_at c.args.outbox _ _ _ _ _ _ _ _ _ c.loop-frame.invariant.serving c.loop-frame-test.true c.frame-item.is c.payload_in.ensures in
+    let here = serving_at c.args.outbox _ _ _ _ _ _ _ _ _ c.loop-frame.invariant.serving c.loop-frame-test.true c.frame-item.is c.payload.ensures in
     rw (p.1, p.2) (serving_fault c.args.outbox _ _ _ _ _ _ _ _ _ c.put.new.buffer.items _ _ c.in_err-put.field-0.0 here c.answer-answer.ensures c.in_err-put.ensures.handed)
 
 pub loop-frame-preserved : goal.loop-frame-preserved
 loop-frame-preserved g c =
-    let here = serving_at c.args.outbox _ _ _ _ _ _ _ _ _ c.loop-frame.invariant.serving c.loop-frame-test.true c.frame-item.is c.payload_in.ensures in
+    let here = serving_at c.args.outbox _ _ _ _ _ _ _ _ _ c.loop-frame.invariant.serving c.loop-frame-test.true c.frame-item.is c.payload.ensures in
     record {
       serving = serving_handed c.args.outbox _ _ _ _ _ _ _ _ _ _ _ _ here c.answer-answer.ensures c.in_ok-put.ensures.handed;
       faults = c.in_ok-put.ensures.faults ∙ c.loop-frame.invariant.faults;
