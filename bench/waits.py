@@ -18,11 +18,11 @@ import os
 import sys
 import time
 from functools import partial
-from typing import Any, Callable, Dict, Iterator, List, Tuple
+from typing import Any, Callable, Dict, Iterable, Iterator, List, Tuple
 
 HERE = os.path.dirname(os.path.abspath(__file__))
 sys.path.insert(0, os.path.join(HERE, ".."))
-from tests.lib.checks import ATOMIC, HERE_OK, OK, same, script, side_by_side  # noqa: E402
+from tests.lib.checks import ATOMIC, HERE_OK, OK, committed, opened, same, script, side_by_side  # noqa: E402
 from tests.lib.holding import ALL_KEYS, ALL_RECORDS, DUMP, MEGABYTE, NO_MORE, Held  # noqa: E402
 from tests.lib.holding import ask_long, fill, long_reads, long_record, size_of, small_record, table  # noqa: E402
 from tests.lib.servers import Server  # noqa: E402
@@ -185,17 +185,38 @@ def long_writes(server: Server, client: Connection) -> Work:
     return lambda: ask_long(client, request, size_of(("atomic", [OK])))
 
 
-def wide_writes(server: Server, client: Connection) -> Work:
-    """Records of a table of its own with many indexes, each with a value of its own in each, as many as a request has room for."""
-    name, first = f"wide{next(OWN)}", itertools.count()
-    attributes = [f"a{at}" for at in range(INDEXES + 1)]
+def wide_table(client: Connection) -> str:
+    """A table with many indexes; its name."""
+    name, attributes = f"wide{next(OWN)}", [f"a{at}" for at in range(INDEXES + 1)]
     script((client, ("create_table", name, [("attributes", attributes), ("index", attributes[1:])]), ATOMIC))
+    return name
+
+
+def wide_writes_of(name: str, keys: Iterable[int]) -> List[Term]:
+    """Writes of records that have a value of their own in each index."""
+    return [("write", (name, *range(key, key + INDEXES + 1))) for key in keys]
+
+
+def wide_writes(server: Server, client: Connection) -> Work:
+    """Writes to a table of its own with many indexes, as many as a request has room for."""
+    name, keys = wide_table(client), itertools.count()
 
     def work() -> None:
-        records = [(name, *range(key, key + INDEXES + 1)) for key in itertools.islice(first, WIDE)]
-        ask_long(client, ("transaction", [("write", record) for record in records], 0), size_of(("atomic", [OK] * WIDE)))
+        writes = wide_writes_of(name, itertools.islice(keys, WIDE))
+        ask_long(client, ("transaction", writes, 0), size_of(("atomic", [OK] * WIDE)))
 
     return work
+
+
+def wide_commits(server: Server, client: Connection) -> Work:
+    """The commit of a transaction whose writes came each in a request of its own, in each round that of another session."""
+    sessions = [server.connect() for _ in range(MOST_ROUNDS)]
+    for session in sessions:
+        opened(session)
+        session.socket.settimeout(PATIENCE)
+        script(*((session, write, OK) for write in wide_writes_of(wide_table(client), range(READS))))
+    left = iter(sessions)
+    return lambda: committed(next(left))
 
 
 def indexed_deletions(server: Server, client: Connection) -> Work:
@@ -294,6 +315,7 @@ def rows(count: int) -> Iterator[Tuple[str, Callable[[Connection], None], Prepar
     yield f"a one-shot of {WRITES} deletions there, told in detail", one, bag_deletions
     if count > 1:
         return
+    yield f"the commit of {READS} writes to a table with {INDEXES} indexes", one, wide_commits
     yield f"{FOLDS} one-shots of {READS} reads that fold commands on a table of {RECORDS} records", small, index_folds
     yield f"a one-shot of {READS} writes, told in detail to {WATCHERS}", small, many_watch
 

@@ -223,6 +223,8 @@ def test_what_a_session_was_sent(server: Metered) -> None:
         script((client, "begin", ("tid", number + 38)), (client, "commit", ("atomic", number + 38)))
         shows(server, number, sent_bytes=str(client.received))
         client.close()
+        gone = soon(lambda: len(sessions(server)), lambda count: count < 10, COUNTED)
+        assert gone < 10, "sessions whose client is gone"
 
 
 def test_slow_clients(server: Metered) -> None:
