@@ -5,7 +5,7 @@ use denote.Param.Send.{IsSend, IsSync, plain_send, plain_sync, sendable, view_se
 use denote.Param.SendFields.{as_row_send, as_row_sync, declared_send, declared_sync, variants_send, variants_sync}
 use Rattle.std.proofs.Crossing.{Vec-send, Vec-sync, Arc-send, Arc-sync, crosses, frees, send as heap_send}
 use Rattle.std.proofs.MapsCrossing.{BTreeMap-send}
-use Rattle.tab_map.proofs.Crossing.{Entry-send, Map-send, Map-sync, Set-send, Set-sync}
+use Rattle.tab_map.proofs.Crossing.{Entry-send, Entry-sync, Map-send, Map-sync, Set-send, Set-sync}
 use Rattle.tab_term.proofs.atom.Atom.TheSendSync as atom_marks
 use Rattle.tab_records.proofs.Crossing.{Records-send, Records-sync}
 use Rattle.tab_lists.proofs.Crossing.{SharedTerms-send, SharedTerms-sync, Answers-send, Answers-sync, EventTerms-send, EventTerms-sync}
@@ -38,6 +38,7 @@ use Rattle.tab_index.specs.contracts.index.Index as index
 use Rattle.tab_rows.specs.contracts.rows.Rows as rows
 use Rattle.tab_rows.specs.contracts.update.Update as update
 use Rattle.tab_index.specs.contracts.table.IndexedTable as table
+use Rattle.tab_index.specs.contracts.backlog.Backlog as backlog
 use Rattle.tab_index.specs.contracts.bare.BareTable as bare_table
 use Rattle.tab_tables.specs.contracts.bare.BareCatalog as bare_catalog
 use Rattle.tab_tables.specs.contracts.catalog.Catalog as catalog
@@ -95,6 +96,9 @@ operation-sync = search (parts, Term-sync, Terms-sync) depth 20
 
 only_record-send : IsSend only_record.the_row
 only_record-send = search (parts, Entry-send, Term-send, Term-sync, Records-send, Records-sync) depth 30
+
+only_record-sync : IsSync only_record.the_row
+only_record-sync = search (parts, Entry-sync, Term-send, Term-sync, Records-send, Records-sync) depth 30
 
 operation_form-send : IsSend operation_form.the_row
 operation_form-send = search (parts, only_record-send, Term-send, operation-send, operation-sync) depth 20
@@ -166,14 +170,32 @@ index-send = declared_send index.the_type (search parts, (search (parts, Set-sen
 index-sync : IsSync index.the_row
 index-sync = declared_sync index.the_type (search parts, (search (parts, Set-send, Set-sync, Term-send, Term-sync) depth 30, (search (parts, further-sync), tt)))
 
+change-send : IsSend change.the_row
+change-send = search (parts, Term-send) depth 20
+
+update-send : IsSend update.the_row
+update-send = search (parts, change-send, only_record-send) depth 30
+
+change-sync : IsSync change.the_row
+change-sync = search (parts, Term-sync) depth 20
+
+update-sync : IsSync update.the_row
+update-sync = search (parts, change-sync, only_record-sync) depth 30
+
+backlog-send : IsSend backlog.the_row
+backlog-send = search (parts, rows-send, update-send) depth 30
+
+backlog-sync : IsSync backlog.the_row
+backlog-sync = search (parts, rows-sync, update-sync) depth 30
+
 table-send : IsSend table.the_row
-table-send = search (parts, rows-send, index-send, definition_marks.the_send, definition_marks.the_sync) depth 30
+table-send = search (parts, rows-send, index-send, backlog-send, definition_marks.the_send, definition_marks.the_sync) depth 30
 
 table-sync : IsSync table.the_row
-table-sync = search (parts, rows-sync, index-sync, definition_marks.the_send, definition_marks.the_sync) depth 30
+table-sync = search (parts, rows-sync, index-sync, backlog-sync, definition_marks.the_send, definition_marks.the_sync) depth 30
 
 catalog-send : IsSend catalog.the_row
-catalog-send = search (parts, table-send, table-sync) depth 30
+catalog-send = search (parts, table-send, table-sync, Set-send) depth 30
 
 bare_table-send : IsSend bare_table.the_row
 bare_table-send = search (parts, rows-send, definition_marks.the_send, definition_marks.the_sync) depth 30
@@ -183,12 +205,6 @@ bare_table-sync = search (parts, rows-sync, definition_marks.the_send, definitio
 
 bare_catalog-send : IsSend bare_catalog.the_row
 bare_catalog-send = search (parts, bare_table-send, bare_table-sync) depth 30
-
-change-send : IsSend change.the_row
-change-send = search (parts, Term-send) depth 20
-
-update-send : IsSend update.the_row
-update-send = search (parts, change-send, only_record-send) depth 30
 
 overlay-send : IsSend levels.the_row
 overlay-send = search (parts, update-send, Term-send, Term-sync, Records-send, Records-sync) depth 30
@@ -292,7 +308,7 @@ module _ (H : RattleType) (names : naming.Ghosts H.Denot) (rooms : host.Ghosts H
           search parts,
           (
             search (parts, register_marks.the_send),
-            (search (parts, prefix_marks.the_send), (as_row_send (log.the_field H names) (log-send h), (as_row_send (core.the_field (channel_post.the_row H names) posts) (core-send (channel_post.the_row H names) posts (ChannelPost-send H names h)), (search (parts, journal-send) depth 20, (search (parts, folded-send) depth 20, tt))))),
+            (search (parts, prefix_marks.the_send), (as_row_send (log.the_field H names) (log-send h), (as_row_send (core.the_field (channel_post.the_row H names) posts) (core-send (channel_post.the_row H names) posts (ChannelPost-send H names h)), (search (parts, journal-send) depth 20, (search (parts, folded-send) depth 20, (search parts, tt)))))),
           ),
         ),
       ))

@@ -37,6 +37,8 @@ pub struct Book<H: Host> {
     pub(crate) journal: Journal,
     /// What was folded last.
     pub(crate) folded: Option<Folded>,
+    /// The number of changes that the tables' indexes lacked when the book was last unlocked.
+    lacked: usize,
 }
 
 /// What the steps replaced, whose drop may take long.
@@ -109,6 +111,7 @@ impl<H: Host> Book<H> {
             core: Core::new(alloc, limits),
             journal,
             folded: None,
+            lacked: 0,
         })
     }
 
@@ -120,6 +123,24 @@ impl<H: Host> Book<H> {
             tables: self.core.take_replaced(),
             folded: self.folded.take(),
         }
+    }
+
+    /// The number of changes by which the tables' indexes lack more than at the last call. `settle` makes them.
+    pub fn take_owed(&mut self) -> usize
+        ensures { self.new ≡ self.old }
+    {
+        let lacks = self.core.lacks();
+        let owed = lacks.saturating_sub(self.lacked);
+        self.lacked = lacks;
+        owed
+    }
+
+    /// Makes at most so many changes of one table in its indexes that lack them. If memory is refused, they lack them still.
+    pub fn settle(&mut self, most: usize)
+        ensures { self.new ≡ self.old }
+    {
+        let _ = self.core.settle(most);
+        self.lacked = self.core.lacks();
     }
 
     /// The tables as they are committed.

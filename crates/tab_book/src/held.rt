@@ -83,7 +83,7 @@ impl<'a, H: Host> Held<'a, H> {
         let releases = self.releases;
         self.releases = false;
         if let Some(book) = self.book.take() {
-            self.shared.let_go(book, releases);
+            self.shared.let_go(self.host, book, releases);
         }
     }
 }

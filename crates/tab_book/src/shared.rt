@@ -58,6 +58,9 @@ const NAP: u64 = 20;
 
 const SLEEP: u64 = 1_000;
 
+/// The most changes that are made in a table's indexes under one hold. With 254 indexes they take some 10 milliseconds.
+const SETTLED: usize = 32;
+
 /// A book under a lock, and the conditions that its sessions sleep on. A caller that locks it and makes steps returns
 /// it by `let_go`, which wakes the sessions that may go on; the calls here do.
 #[derive(Drop)]
@@ -113,19 +116,23 @@ impl<H: Host> Shared<H> {
         self.book.lock(host)
     }
 
-    /// Unlocks the book. If a step released something, it wakes the sessions that may go on since.
-    /// What was replaced is dropped after that.
-    pub fn let_go(&self, mut book: MutexGuard<'_, Book<H>>, releases: bool) {
+    /// Unlocks the book. If a step released something, it wakes the sessions that may go on since. What was replaced is dropped after
+    /// that, and the changes that steps left for indexes of many are made in them, some at a time: others' steps come between.
+    pub fn let_go(&self, host: &H, mut book: MutexGuard<'_, Book<H>>, releases: bool) {
         let replaced = book.take_replaced();
-        if !releases {
+        let owed = book.take_owed();
+        if releases {
+            let ready = book.ready();
             drop(book);
-            drop(replaced);
-            return;
+            self.bells.ring(&ready);
+        } else {
+            drop(book);
         }
-        let ready = book.ready();
-        drop(book);
-        self.bells.ring(&ready);
         drop(replaced);
+        for _ in 0..owed.div_ceil(SETTLED) {
+            self.hold(host).settle(SETTLED);
+            thread::yield_now();
+        }
     }
 
     /// Joins a session, with a mailbox of its own, whose receiving end it returns. The mailbox is created before the
@@ -345,7 +352,7 @@ impl<H: Host> Shared<H> {
     {
         let mut book = self.hold(host);
         let answered = book.step_shown(seat.session, step, seen)?;
-        self.let_go(book, answered.releases);
+        self.let_go(host, book, answered.releases);
         Ok(answered)
     }
 }

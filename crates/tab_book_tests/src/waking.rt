@@ -77,7 +77,7 @@ fn stepped<H: Host>(
     let mut book = shared.hold(host);
     let answered = book.step(seat.session(), step)?;
     let then = then_of(&answered);
-    shared.let_go(book, answered.releases);
+    shared.let_go(host, book, answered.releases);
     Ok(then)
 }
 

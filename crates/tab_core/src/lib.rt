@@ -206,6 +206,19 @@ impl<P: Post + Drop> Core<P> {
         self.machine.replaced.take()
     }
 
+    /// The number of changes that the tables' indexes lack. `settle` makes them.
+    pub fn lacks(&self) -> usize {
+        self.machine.catalog.lacks()
+    }
+
+    /// Makes at most so many changes of one table in its indexes that lack them. No state and no reply changes.
+    pub fn settle(&mut self, most: usize) -> Result<(), AllocError>
+        ensures { self.new ≡ self.old }
+    {
+        let alloc = self.machine.alloc;
+        self.machine.catalog.settle(alloc, most)
+    }
+
     /// The tables as they are committed.
     pub fn tables(&self) -> &Catalog
         ensures { result.now ≡ self.now.tables }

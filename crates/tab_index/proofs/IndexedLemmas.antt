@@ -2,14 +2,16 @@
 use Rattle.std.proofs.Common.{◌≡◌, ◌≢◌, Bool, true, false, refl, ℕ, ◌+◌, ◌<◌, ◌≤◌, List, [], ◌∷◌, ◌++◌, length, take, drop, get_or, sym, ap, ◌∙◌, subst, append_assoc, arith, get_or-set_other, get_or-set_same, below_more}
 use Rattle.std.proofs.Math.ListN.{set}
 use Rattle.std.proofs.Math.Seq.{take-append_seam}
-use Rattle.std.specs.Prelude.{if◌then◌else◌, eqb, nat_lt}
+use Rattle.std.specs.Prelude.{if◌then◌else◌, eqb, nat_lt, Option, Some, None, IfSome}
 use Rattle.std.proofs.lemmas.Bool.{eq-eqb, eqb-true}
 use Rattle.std.proofs.lemmas.List.{at_drop_more, map-append, length-set, take-append-drop}
 use Rattle.std.proofs.lemmas.List.Elements.{All-append, All-take, All-cons, All-drop}
 use Rattle.tab_model.specs.Definitions.{add_number, less_number}
-use Rattle.tab_model.specs.Tables.{Rows}
+use Rattle.tab_model.specs.declared.data.TableDef.{TableDef}
+use Rattle.tab_model.specs.Tables.{Rows, rows_after}
 use Rattle.tab_index.specs.declared.index.Index.{Index}
-use Rattle.tab_index.specs.Indexed.{positions, IsOf, AreIndexesOf}
+use Rattle.tab_model.specs.declared.data.Kind.{Kind}
+use Rattle.tab_index.specs.Indexed.{positions, IsOf, IsBare, IsIndexed, AreIndexesOf, Behind, LeadsTo}
 
 -- one more index, for the next position
 pub next_position : (indexes new : List Index) (x : Index) (ps : List ℕ) (i d : ℕ) (all : List ℕ) → i < length ps → x.position ≡ get_or ps i d → new ≡ indexes ++ x ∷ []
@@ -85,3 +87,26 @@ other_kept p xs others new i x y all h is n e more before =
 -- an index put at a place
 pub put_at : (rows : Rows) (xs : List Index) (n : ℕ) (y : Index) → AreIndexesOf rows xs → IsOf rows y → AreIndexesOf rows (take n xs ++ y ∷ drop n xs)
 put_at rows xs n y h here = All-append (IsOf rows) (take n xs) (y ∷ drop n xs) (All-take (IsOf rows) n xs h) (All-cons (IsOf rows) y (drop n xs) here (All-drop (IsOf rows) n xs h))
+
+-- ---- changes that indexes lack
+
+-- they lead to the same records under another definition of the same type
+pub leads_again : (def other : TableDef) (rows : Rows) (backlog : Option Behind) → other.kind ≡ def.kind → IfSome backlog (LeadsTo def rows) → IfSome backlog (LeadsTo other rows)
+leads_again def other rows None same leads = tt
+leads_again def other rows (Some b) same leads = record {
+  bare = record { kind = leads.bare.kind ∙ sym same; ordered = leads.bare.ordered; apart = leads.bare.apart };
+  after = ap (λ k. rows_after k b.0.1 b.1) same ∙ leads.after;
+}
+
+-- ---- parts of a table that are equal to those of one
+
+pub bare_of : (def other : TableDef) (rows same : Kind × Rows) (indexes : List Index) (backlog : Option Behind) → IsIndexed def rows indexes backlog → other ≡ def → same ≡ rows → IsBare other same
+bare_of def other rows same indexes backlog kept d r = subst (λ x. IsBare x same) (sym d) (subst (IsBare def) (sym r) (record { kind = kept.kind; ordered = kept.ordered; apart = kept.apart }))
+
+pub leads_of : (def other : TableDef) (rows same : Kind × Rows) (indexes : List Index) (backlog copy : Option Behind) → IsIndexed def rows indexes backlog → other ≡ def → same ≡ rows → copy ≡ backlog
+    → IfSome copy (LeadsTo other same.1)
+leads_of def other rows same indexes backlog copy kept d r b =
+    subst (λ o. IfSome o (LeadsTo other same.1)) (sym b) (subst (λ x. IfSome backlog (LeadsTo x same.1)) (sym d) (subst (λ (x : Kind × Rows). IfSome backlog (LeadsTo def x.1)) (sym r) kept.leads))
+
+pub of_same : (rows same : Rows) (index : Index) → same ≡ rows → IsOf same index → IsOf rows index
+of_same rows same index is here = subst (λ r. IsOf r index) is here

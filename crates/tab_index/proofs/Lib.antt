@@ -8,3 +8,4 @@ pub mod IndexedLemmas
 pub mod QueryLemmas
 pub mod PairsLemmas
 pub mod FurtherPairs
+pub mod BacklogLemmas

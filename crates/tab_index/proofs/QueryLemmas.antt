@@ -115,7 +115,7 @@ module _ (es : List Entry) (ks : List Term) (p : ℕ) (x : PlainTerm) (o : IsInO
     where
       cases : (b : Bool) → contains_key term_cmp q ks ≡ b → filter (has_value p x) (found_in (found_at b (lookup term_cmp q es))) ≡ filter (has_value p x) (at (joined es) (term q))
       cases true g = ap (filter (has_value p x)) (sym (at-joined es q o.ascends o.keyed))
-      cases false g = sym (none_left (has_value p x) (at (joined es) (term q)) (sym (keys q) ∙ g))
+      cases false g = sym (none_left (has_value p x) (at (joined es) (term q)) (keys q g))
 
   pub index_found : filter (has_value p x) (joined (at_keys ks es)) ≡ index_read (joined es) p x
   index_found =

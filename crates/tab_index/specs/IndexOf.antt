@@ -1,6 +1,6 @@
 -- An index of records at a position: which values stand in it, and with which keys (Mnesia Reference Manual,
 -- add_table_index/2).
-use Rattle.std.specs.Prelude.{◌≡◌, ◌≢◌, ℕ, List, [], Bool, not, ◌&&◌, ◌||◌, Option, None, Some}
+use Rattle.std.specs.Prelude.{◌≡◌, ◌≢◌, ℕ, List, [], Bool, false, not, ◌&&◌, ◌||◌, Option, None, Some}
 use Rattle.std.specs.List.{list_any}
 use Rattle.tab_term.specs.declared.term.Term.{Term}
 use Rattle.tab_term.specs.Data.{PlainTerm}
@@ -52,6 +52,6 @@ pub record IsWithout (es fs : List Entry) (x k : PlainTerm) : Type 0 where
   pub pairs : (v j : Term) → has_pair fs v j ≡ (not (is_pair x k v j) && has_pair es v j)
   pub filled : IsFilled es → IsFilled fs
 
--- the keys of which a record has a value at a position
+-- keys among which are all of which a record has a value at a position
 abbrev pub AreKeysWith : Rows → ℕ → PlainTerm → List Term → Type 0
-AreKeysWith rows p x ks = (k : Term) → contains_key term_cmp k ks ≡ list_any (has_value p x) (at rows (term k))
+AreKeysWith rows p x ks = (k : Term) → contains_key term_cmp k ks ≡ false → list_any (has_value p x) (at rows (term k)) ≡ false

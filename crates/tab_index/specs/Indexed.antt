@@ -1,13 +1,19 @@
 -- A table's records with their indexes.
-use Rattle.std.specs.Prelude.{◌≡◌, ◌≤◌, ℕ, List, ◌∷◌, ◌++◌, true, map, length, take, drop}
+use Rattle.std.specs.Prelude.{◌≡◌, ◌≤◌, ℕ, List, [], ◌∷◌, ◌++◌, Bool, true, false, ◌&&◌, map, length, take, drop, Option, Some, None, IfSome}
 use Rattle.tab_model.specs.Definitions.{add_number}
 use Rattle.std.specs.List.{All}
 use Rattle.tab_index.specs.declared.index.Index.{Index}
 use Rattle.tab_index.specs.FurtherOf.{IsFurtherOf, AreApart}
-use Rattle.tab_index.specs.IndexOf.{IsIndexOf}
+use Rattle.tab_index.specs.IndexOf.{IsIndexOf, has_value}
+use Rattle.tab_term.specs.declared.term.Term.{Term}
+use Rattle.tab_term.specs.Data.{PlainTerm}
+use Rattle.tab_term.specs.Same.{same}
+use Rattle.tab_term.specs.View.{term}
+use Rattle.tab_model.specs.declared.data.Change.{Change}
+use Rattle.tab_model.specs.declared.data.Change.TheVariants as change
 use Rattle.tab_model.specs.declared.data.Kind.{Kind}
 use Rattle.tab_model.specs.declared.data.TableDef.{TableDef}
-use Rattle.tab_model.specs.Tables.{Rows, is_ordered}
+use Rattle.tab_model.specs.Tables.{Rows, is_ordered, key, rows_after}
 
 -- the positions of the indexes, in their order
 abbrev pub positions : List Index → List ℕ
@@ -33,10 +39,44 @@ pub record IsBare (def : TableDef) (rows : Kind × Rows) : Type 0 where
   pub ordered : is_ordered rows.1 ≡ true
   pub apart : AreApart rows.1
 
+-- ---- changes that the indexes lack
+
+-- the records that indexes are of, and the changes that were made to them since
+abbrev pub Behind : Type 0
+Behind = (Kind × Rows) × List Change
+
+-- the records that a table's indexes are of
+abbrev pub indexed_rows : Rows → Option Behind → Rows
+indexed_rows rows None = rows
+indexed_rows rows (Some b) = b.0.1
+
+-- what is behind before the next change
+abbrev pub begun_at : Kind × Rows → Option Behind → Behind
+begun_at rows None = (rows, [])
+begun_at rows (Some b) = b
+
+-- the changes lead to these records
+pub record LeadsTo (def : TableDef) (rows : Rows) (b : Behind) : Type 0 where
+  pub bare : IsBare def b.0
+  pub after : rows_after def.kind b.0.1 b.1 ≡ rows
+
+-- the record that a change writes
+abbrev pub row_written : Change → Option Term
+row_written (change.Write r) = Some r
+row_written (change.Delete t k) = None
+row_written (change.DeleteObject r) = None
+
+-- whether a change writes a record with this value at a position, and this key
+abbrev pub writes : ℕ → PlainTerm → PlainTerm → Change → Bool
+writes p x k (change.Write r) = has_value p x (term r) && same k (key (term r))
+writes p x k (change.Delete t j) = false
+writes p x k (change.DeleteObject r) = false
+
 -- what a table keeps
-pub record IsIndexed (def : TableDef) (rows : Kind × Rows) (indexes : List Index) : Type 0 where
+pub record IsIndexed (def : TableDef) (rows : Kind × Rows) (indexes : List Index) (backlog : Option Behind) : Type 0 where
   pub kind : rows.0 ≡ def.kind
   pub ordered : is_ordered rows.1 ≡ true
   pub apart : AreApart rows.1
   pub positions_are : positions indexes ≡ def.indexes
-  pub indexes_are : AreIndexesOf rows.1 indexes
+  pub indexes_are : AreIndexesOf (indexed_rows rows.1 backlog) indexes
+  pub leads : IfSome backlog (LeadsTo def rows.1)

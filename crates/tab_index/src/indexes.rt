@@ -1,8 +1,10 @@
 //! Lists of indexes, one for each position.
 
-ghost use Rattle.std.specs.Prelude.{◌≡◌, [], IfOk, MatchOption};
-ghost use Rattle.tab_model.specs.Definitions.{add_number, less_number};
+ghost use Rattle.std.specs.Prelude.{◌≡◌, [], IfOk, IfSome, is_some, MatchOption};
+ghost use Rattle.std.specs.Option.{option_copied};
+ghost use Rattle.tab_model.specs.Definitions.{add_number, has_number, less_number};
 ghost use Rattle.tab_model.specs.Tables.{Rows as RowsOf};
+ghost use Rattle.tab_index.specs.IndexOf.{IsIndexOf};
 ghost use Rattle.tab_index.specs.Indexed.{positions, AreIndexesOf, IsPlace};
 
 use crate::index::Index;
@@ -60,6 +62,21 @@ pub fn new_place(indexes: &[Index], position: u64) -> Option<usize>
         }
     }
     Some(indexes.len())
+}
+
+/// The index at the position.
+pub fn index_at(indexes: &[Index], position: u64) -> Option<&Index>
+    ensures found { is_some result ≡ has_number (positions indexes.now) position }
+    ensures index { IfSome (option_copied result)
+        (λ index. (rows : RowsOf) → AreIndexesOf rows indexes.now
+        → IsIndexOf rows position index.keys) }
+{
+    for index in indexes {
+        if index.position == position {
+            return Some(index);
+        }
+    }
+    None
 }
 
 /// The indexes that aren't at the position, which share all with these.

@@ -28,7 +28,7 @@ impl IndexedTable {
     {
         let condition = Condition::Has(position, value.try_clone(alloc)?);
         let snapshot = self.snapshot()?;
-        match self.keys_with(position, value)? {
+        match self.keys_with(alloc, position, value)? {
             Some(keys) => {
                 let at = AtKeys { keys, snapshot };
                 SharedTerms::from_query(alloc, Scope::Keys(at), condition)

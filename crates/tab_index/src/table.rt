@@ -1,6 +1,5 @@
 ghost use Rattle.std.specs.Prelude.{◌≡◌, [], IfOk, IfSome, MatchOption, OnOk, OnErr, is_some, IsTrue, if◌then◌else◌, Some, None, length, map};
 ghost use Rattle.std.specs.List.{All};
-ghost use Rattle.std.specs.Option.{option_copied};
 ghost use Rattle.tab_term.specs.Order.{term_cmp};
 ghost use Rattle.tab_term.specs.View.{term, terms};
 ghost use Rattle.tab_model.specs.Names.{plain_terms};
@@ -10,12 +9,13 @@ ghost use Rattle.tab_model.specs.Catalogs.{with_rows, with_def};
 ghost use Rattle.tab_rows.specs.Joined.{joined, IsInOrder};
 ghost use Rattle.tab_map.specs.KeyList.{KeysAscend};
 ghost use Rattle.tab_index.specs.FurtherOf.{AreApart};
-ghost use Rattle.tab_index.specs.IndexOf.{AreKeysWith, IsIndexOf};
-ghost use Rattle.tab_index.specs.Indexed.{positions, AreIndexesOf, IsBare};
+ghost use Rattle.tab_index.specs.IndexOf.{AreKeysWith};
+ghost use Rattle.tab_index.specs.Indexed.{positions, indexed_rows, AreIndexesOf, IsBare, LeadsTo};
 
+use crate::backlog::{AT_ONCE, Backlog, indexed, put_off, shared_backlog};
 use crate::index::Index;
 use crate::indexes::{
-    empty_indexes, indexes_of, new_place, other_indexes, positions_of, shared_indexes,
+    empty_indexes, index_at, indexes_of, new_place, other_indexes, positions_of, shared_indexes,
 };
 use std::alloc::{AllocError, Global};
 use std::marker::Model;
@@ -35,6 +35,8 @@ pub struct IndexedTable {
     rows: Rows,
     // One for each position of the definition, in their order.
     indexes: Vec<Index>,
+    // The changes that the indexes lack.
+    backlog: Option<Backlog>,
 }
 
 impl Model for IndexedTable {
@@ -50,16 +52,22 @@ impl Model for IndexedTable {
 
     ghost view = { λ a. record { def = a.def.value; rows = a.rows.1 } };
 
-    ghost invariant = { λ a. IsIndexed a.def.value a.rows a.indexes.items };
+    ghost invariant = { λ a. IsIndexed a.def.value a.rows a.indexes.items a.backlog };
 }
 
 // A derived Drop would be expanded, field by field, at each exit of each caller.
 impl Drop for IndexedTable {
     fn drop(self) {
-        let IndexedTable { def, rows, indexes } = self;
+        let IndexedTable {
+            def,
+            rows,
+            indexes,
+            backlog,
+        } = self;
         drop(def);
         drop(rows);
         drop(indexes);
+        drop(backlog);
     }
 }
 
@@ -74,6 +82,7 @@ impl IndexedTable {
             def: Arc::new(alloc, def)?,
             rows,
             indexes,
+            backlog: None,
         })
     }
 
@@ -87,10 +96,16 @@ impl IndexedTable {
         ensures { IfOk result (λ table. table ≡ record { def = def.value; rows = rows.1 }) }
     {
         let indexes = indexes_of(alloc, &def.indexes, &rows)?;
-        Ok(IndexedTable { def, rows, indexes })
+        Ok(IndexedTable {
+            def,
+            rows,
+            indexes,
+            backlog: None,
+        })
     }
 
-    /// The same table, in a time that the number of indexes bounds.
+    /// The same table. The changes that its indexes lack are copied; all else is shared, in a time that the number of indexes
+    /// bounds.
     pub fn share(&self, alloc: Global) -> Result<IndexedTable, AllocError>
         ensures { IfOk result (λ table. table ≡ self.now) }
     {
@@ -98,6 +113,7 @@ impl IndexedTable {
             def: Arc::try_clone(&self.def)?,
             rows: self.rows.share()?,
             indexes: shared_indexes(alloc, &self.indexes)?,
+            backlog: shared_backlog(alloc, &self.backlog)?,
         })
     }
 
@@ -160,32 +176,28 @@ impl IndexedTable {
         self.rows.keys()
     }
 
-    /// The keys of which a record has the value at the position, as a set that shares all with the index. None if the
-    /// position has no index.
-    pub fn keys_with(&self, position: u64, value: &Term) -> Result<Option<Set<Term>>, AllocError>
+    /// Keys among which are all of which a record has the value at the position. They are those of the index, which the set shares
+    /// all with, and those of changes that the index lacks. None if the position has no index.
+    pub fn keys_with(
+        &self,
+        alloc: Global,
+        position: u64,
+        value: &Term,
+    ) -> Result<Option<Set<Term>>, AllocError>
         ensures indexed { IfOk result
             (λ keys. is_some keys ≡ has_number self.now.def.indexes position) }
         ensures keys { IfOk result
             (λ keys. IfSome keys (AreKeysWith self.now.rows position (term value.now))) }
         ensures in_order { IfOk result (λ keys. IfSome keys (KeysAscend term_cmp)) }
     {
-        match self.index_at(position) {
-            Some(index) => Ok(Some(index.keys_of(value)?)),
-            None => Ok(None),
+        let Some(index) = index_at(&self.indexes, position) else {
+            return Ok(None);
+        };
+        let keys = index.keys_of(value)?;
+        match &self.backlog {
+            Some(backlog) => Ok(Some(backlog.keys_onto(alloc, keys, position, value)?)),
+            None => Ok(Some(keys)),
         }
-    }
-
-    fn index_at(&self, position: u64) -> Option<&Index>
-        ensures found { is_some result ≡ has_number self.now.def.indexes position }
-        ensures index { IfSome (option_copied result)
-            (λ index. (index.position ≡ position) × IsIndexOf self.now.rows position index.keys) }
-    {
-        for index in &self.indexes {
-            if index.position == position {
-                return Some(index);
-            }
-        }
-        None
     }
 
     /// The table with an index at the position, which is built in one walk and a sort. If there is one already, the
@@ -199,10 +211,11 @@ impl IndexedTable {
         let Some(place) = new_place(&self.indexes, position) else {
             return self.share(alloc);
         };
-        let index = Index::of(alloc, position, &self.rows)?;
+        let index = Index::of(alloc, position, indexed(&self.rows, &self.backlog))?;
         let mut indexes = shared_indexes(alloc, &self.indexes)?;
         indexes.insert(place, index)?;
-        self.with_indexes(alloc, indexes)
+        let backlog = shared_backlog(alloc, &self.backlog)?;
+        with_indexes(alloc, &self.def, self.rows.share()?, backlog, indexes)
     }
 
     /// The table without an index at the position.
@@ -213,22 +226,8 @@ impl IndexedTable {
             (with_indexes self.now.def (less_number position self.now.def.indexes))) }
     {
         let indexes = other_indexes(alloc, &self.indexes, position)?;
-        self.with_indexes(alloc, indexes)
-    }
-
-    fn with_indexes(&self, alloc: Global, indexes: Vec<Index>) -> Result<IndexedTable, AllocError>
-        requires { AreIndexesOf self.now.rows indexes.items }
-        ensures { IfOk result
-            (λ table. table
-            ≡ with_def self.now (with_indexes self.now.def (positions indexes.items))) }
-    {
-        let numbers = positions_of(alloc, &indexes)?;
-        let def = with_positions(alloc, &self.def, numbers)?;
-        Ok(IndexedTable {
-            def: Arc::new(alloc, def)?,
-            rows: self.rows.share()?,
-            indexes,
-        })
+        let backlog = shared_backlog(alloc, &self.backlog)?;
+        with_indexes(alloc, &self.def, self.rows.share()?, backlog, indexes)
     }
 
     /// The table after the changes, in turn. This one stays as it was, and shares the parts that did not change. A set
@@ -247,8 +246,8 @@ impl IndexedTable {
         self.share(alloc)?.applied(alloc, updates, lender)
     }
 
-    /// The table after the changes, in turn, in place if nothing is shared; records may be shared as by `updated`. An
-    /// error drops the table.
+    /// The table after the changes, in turn, in place if nothing is shared; records may be shared as by `updated`. If it has many
+    /// indexes, `settle` makes them in these. An error drops the table.
     pub fn applied(
         self,
         alloc: Global,
@@ -262,12 +261,25 @@ impl IndexedTable {
             def,
             mut rows,
             mut indexes,
+            backlog,
         } = self;
-        for update in updates {
-            change_indexes(alloc, &mut indexes, &rows, update)?;
-            rows.update(alloc, update, lender)?;
-        }
-        Ok(IndexedTable { def, rows, indexes })
+        let Some(mut backlog) = put_off(backlog, alloc, &rows, indexes.len())? else {
+            change_both(alloc, &mut indexes, &mut rows, updates, lender)?;
+            return Ok(IndexedTable {
+                def,
+                rows,
+                indexes,
+                backlog: None,
+            });
+        };
+        backlog.add(alloc, updates)?;
+        change_rows(alloc, &mut rows, updates, lender)?;
+        Ok(IndexedTable {
+            def,
+            rows,
+            indexes,
+            backlog: Some(backlog),
+        })
     }
 
     /// Makes a change. A table without indexes is changed in place if nothing is shared. One with indexes is replaced
@@ -284,6 +296,7 @@ impl IndexedTable {
     {
         if self.indexes.is_empty() {
             self.rows.update(alloc, update, lender)?;
+            self.backlog = None;
             return Ok(());
         }
         *self = self.updated(alloc, slice::from_ref(update), lender)?;
@@ -306,11 +319,103 @@ impl IndexedTable {
     {
         if self.indexes.is_empty() {
             self.rows.update_all(rt, alloc, updates, lender)?;
+            self.backlog = None;
             return Ok(());
         }
         *self = self.updated(alloc, updates, lender)?;
         Ok(())
     }
+
+    /// Returns whether changes are made in its indexes later, by `settle`.
+    pub fn is_wide(&self) -> bool {
+        self.indexes.len() > AT_ONCE
+    }
+
+    /// The number of changes that the indexes lack. `settle` makes them.
+    pub fn lacks(&self) -> usize {
+        match &self.backlog {
+            Some(backlog) => backlog.len(),
+            None => 0,
+        }
+    }
+
+    /// Makes at most so many changes in the indexes that lack them, the oldest first. Records and replies stay the same.
+    pub fn settle(&mut self, alloc: Global, most: usize) -> Result<(), AllocError>
+        ensures { self.new ≡ self.old }
+    {
+        let Some(backlog) = &mut self.backlog else {
+            return Ok(());
+        };
+        self.indexes = backlog.settle(alloc, &self.indexes, most)?;
+        if backlog.len() == 0 {
+            self.backlog = None;
+        }
+        Ok(())
+    }
+}
+
+// The table of this definition with these indexes, which name its positions.
+fn with_indexes(
+    alloc: Global,
+    def: &TableDef,
+    rows: Rows,
+    backlog: Option<Backlog>,
+    indexes: Vec<Index>,
+) -> Result<IndexedTable, AllocError>
+    requires bare { IsBare def.now rows }
+    requires leads { IfSome backlog (LeadsTo def.now rows.1) }
+    requires indexes { AreIndexesOf (indexed_rows rows.1 backlog) indexes.items }
+    ensures { IfOk result
+        (λ table. table
+        ≡ record { def = with_indexes def.now (positions indexes.items); rows = rows.1 }) }
+{
+    let numbers = positions_of(alloc, &indexes)?;
+    let def = with_positions(alloc, def, numbers)?;
+    Ok(IndexedTable {
+        def: Arc::new(alloc, def)?,
+        rows,
+        indexes,
+        backlog,
+    })
+}
+
+// Makes the changes, in turn, in the records only.
+fn change_rows(
+    alloc: Global,
+    rows: &mut Rows,
+    updates: &[Update],
+    lender: Option<&Map<Term, Records>>,
+) -> Result<(), AllocError>
+    ensures { OnOk result
+        (rows.new ≡ (rows.old.0, applied_in rows.old.0 rows.old.1 updates.now)) }
+{
+    for update in updates {
+        rows.update(alloc, update, lender)?;
+    }
+    Ok(())
+}
+
+/// Makes the changes, in turn, in the records and in their indexes.
+pub fn change_both(
+    alloc: Global,
+    indexes: &mut Vec<Index>,
+    rows: &mut Rows,
+    updates: &[Update],
+    lender: Option<&Map<Term, Records>>,
+) -> Result<(), AllocError>
+    requires indexes { AreIndexesOf rows.old.1 indexes.old.items }
+    requires ordered { IsTrue (is_ordered rows.old.1) }
+    requires apart { AreApart rows.old.1 }
+    ensures positions { OnOk result (positions indexes.new.items ≡ positions indexes.old.items) }
+    ensures indexes { OnOk result (AreIndexesOf rows.new.1 indexes.new.items) }
+    ensures rows { OnOk result
+        (rows.new ≡ (rows.old.0, applied_in rows.old.0 rows.old.1 updates.now)) }
+{
+    for update in updates {
+        change_indexes(alloc, indexes, rows, update)?;
+        rows.update(alloc, update, lender)?;
+    }
+    Ok(())
 }
 
 fn change_indexes(

@@ -42,7 +42,7 @@ fn put<W: Target>(answer: &PayloadReply, buffer: &mut Vec<u8>, output: &mut W) -
     }
 }
 
-/// Answers the payloads of these frames, and writes the replies.
+/// Answers the payloads of these frames, and writes the replies. First it makes changes in indexes that lack them.
 fn serve_all<H: AllocGlobal + Wait, W: Target>(
     rt: &H,
     core: &mut Core<RingPost>,
@@ -55,6 +55,7 @@ fn serve_all<H: AllocGlobal + Wait, W: Target>(
     ensures faults { OneFault (W.faults output.old) (W.faults output.new) result }
     ensures flushed { OnOk result (IsTrue (W.is_flushed output.new)) }
 {
+    let _ = core.settle(core.lacks());
     let mut buffer = Vec::new(rt.alloc());
     for frame in frames {
         let answer = answer(rt, core, outbox, frame.payload());

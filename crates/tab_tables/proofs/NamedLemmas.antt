@@ -1,5 +1,5 @@
 -- Finding and placing tables by name, in a map and in a catalog.
-use Rattle.std.proofs.Common.{◌≡◌, ℕ, List, [], ◌∷◌, false, refl, sym, ap, ◌∙◌, Some, None, Ordering, Less, Equal, Greater}
+use Rattle.std.proofs.Common.{◌≡◌, ℕ, List, [], ◌∷◌, false, refl, sym, ap, ap₂, ◌∙◌, Some, None, Ordering, Less, Equal, Greater}
 use Rattle.std.specs.Prelude.{if◌then◌else◌, IfSome, Option}
 use Rattle.std.specs.Str.{bytes_eq}
 use Rattle.std.specs.Ordering.{match_ordering, ordering_reverse, is_lt, is_eq}
@@ -82,6 +82,24 @@ named_at (e ∷ es) n k = cases (named_at es n k.1) (bytes_cmp n e.0) refl
     cases ih Less h = tt
     cases ih Equal h = (bytes_eq-Decides n e.0).0 (matches_bytes n e.0 ∙ ap is_eq h) ∙ sym k.0
     cases ih Greater h = ih
+
+put_same : (es : List Entry) (n : List ℕ) (t : Table) → lookup bytes_cmp n es ≡ Some t → insert_entry bytes_cmp (n, t) es ≡ es
+put_same [] n t h = let none : None ≡ Some t = h in cc
+put_same (e ∷ es) n t h = cases (put_same es n t) (bytes_cmp n e.0) refl h
+  where
+    cases : (lookup bytes_cmp n es ≡ Some t → insert_entry bytes_cmp (n, t) es ≡ es) → (o : Ordering) → bytes_cmp n e.0 ≡ o → match_ordering o None (Some e.1) (lookup bytes_cmp n es) ≡ Some t
+        → match_ordering o ((n, t) ∷ e ∷ es) ((n, t) ∷ es) (e ∷ insert_entry bytes_cmp (n, t) es) ≡ e ∷ es
+    cases ih Less q g = let none : None ≡ Some t = g in cc
+    cases ih Equal q g = let is : e.1 ≡ t = cc in ap₂ (λ (m : List ℕ) (s : Table). (m, s) ∷ es) ((bytes_eq-Decides n e.0).0 (matches_bytes n e.0 ∙ ap is_eq q)) (sym is)
+    cases ih Greater q g = ap (λ xs. e ∷ xs) (ih g)
+
+-- a table that stays the same
+pub revised_same : (es : List Entry) (n : List ℕ) → revised_at bytes_cmp (λ t. t) n es ≡ es
+revised_same es n = cases (lookup bytes_cmp n es) refl
+  where
+    cases : (o : Option Table) → lookup bytes_cmp n es ≡ o → revised_as bytes_cmp (λ t. t) n es o ≡ es
+    cases None h = refl
+    cases (Some t) h = put_same es n t h
 
 -- the table of a change, where it stands, with its records after the change
 abbrev pub changed : Change → Table → Table

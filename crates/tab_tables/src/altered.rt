@@ -46,6 +46,26 @@ impl<'a> Revise<BareTable> for Altered<'a> {
     }
 }
 
+/// Changes that a table's indexes lack, of which at most so many are made in them.
+#[derive(Drop)]
+pub struct Settled {
+    pub most: usize,
+}
+
+impl Revise<IndexedTable> for Settled {
+    ghost becomes = { λ a table. table };
+
+    fn revise(self, alloc: Global, table: &mut IndexedTable) -> Result<(), AllocError> {
+        table.settle(alloc, self.most)
+    }
+
+    fn revised(self, alloc: Global, table: &IndexedTable) -> Result<IndexedTable, AllocError> {
+        let mut next = table.share(alloc)?;
+        next.settle(alloc, self.most)?;
+        Ok(next)
+    }
+}
+
 /// Changes of a table, in turn, or none of them.
 #[derive(Drop)]
 pub struct AllAltered<'a, R: Wait> {

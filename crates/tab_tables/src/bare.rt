@@ -16,7 +16,7 @@ use std::marker::Model;
 use std::slice;
 use std::sync::Wait;
 use tab_index::BareTable;
-use tab_map::Map;
+use tab_map::{Map, Set};
 use tab_rows::Update;
 use tab_term::Atom;
 
@@ -169,12 +169,15 @@ impl BareCatalog {
         ensures { IfOk result (λ catalog. catalog ≡ self.now) }
     {
         let mut tables = Vec::new(alloc);
+        let mut wide = Set::new();
         for entry in self.by_name.iter() {
             let (name, table) = entry.pair();
             tables.push((name.try_clone(alloc)?, table.indexed(alloc)?))?;
+            wide.insert(alloc, name.try_clone(alloc)?)?;
         }
         Ok(Catalog {
             by_name: Map::from_sorted(alloc, tables)?,
+            wide,
         })
     }
 }

@@ -6,7 +6,7 @@ ghost use Rattle.tab_model.specs.Operations.{change_catalog};
 ghost use Rattle.tab_tables.specs.Named.{catalog_of};
 ghost use Rattle.tab_tables.specs.OneTable.{AreOf};
 
-use crate::altered::{AllAltered, Altered};
+use crate::altered::{AllAltered, Altered, Settled};
 use crate::changing::Changing;
 use crate::lender::Lender;
 use crate::tags::{only_table, table_of_update};
@@ -15,7 +15,7 @@ use std::marker::Model;
 use std::slice;
 use std::sync::Wait;
 use tab_index::IndexedTable;
-use tab_map::{Iter, Map};
+use tab_map::{Iter, Map, Set};
 use tab_rows::Update;
 use tab_term::Atom;
 
@@ -23,6 +23,8 @@ use tab_term::Atom;
 #[derive(Drop)]
 pub struct Catalog {
     pub(crate) by_name: Map<Atom, IndexedTable>,
+    /// Names, among which are those of all tables whose indexes may lack changes.
+    pub(crate) wide: Set<Atom>,
 }
 
 impl Model for Catalog {
@@ -47,6 +49,7 @@ impl Catalog {
     {
         Catalog {
             by_name: Map::new(),
+            wide: Set::new(),
         }
     }
 
@@ -56,6 +59,7 @@ impl Catalog {
     {
         Ok(Catalog {
             by_name: self.by_name.share()?,
+            wide: self.wide.share()?,
         })
     }
 
@@ -85,10 +89,16 @@ impl Catalog {
     pub fn with(self, alloc: Global, table: IndexedTable) -> Result<Catalog, AllocError>
         ensures { IfOk result (λ catalog. catalog ≡ place self table) }
     {
-        let Catalog { mut by_name } = self;
+        let Catalog {
+            mut by_name,
+            mut wide,
+        } = self;
         let name = table.def().name.try_clone(alloc)?;
+        if table.is_wide() {
+            wide.insert(alloc, name.try_clone(alloc)?)?;
+        }
         by_name.insert(alloc, name, table)?;
-        Ok(Catalog { by_name })
+        Ok(Catalog { by_name, wide })
     }
 
     /// The tables after the changes, in turn. These stay as they were, and share with the new ones all that did not
@@ -175,7 +185,43 @@ impl Catalog {
     {
         Ok(Catalog {
             by_name: self.by_name.removed(alloc, name)?,
+            wide: self.wide.removed(alloc, name)?,
         })
+    }
+
+    /// The number of changes that the tables' indexes lack. `settle` makes them.
+    pub fn lacks(&self) -> usize {
+        let mut lacks: usize = 0;
+        for name in self.wide.iter() {
+            if let Some(table) = self.table(name) {
+                lacks = lacks.saturating_add(table.lacks());
+            }
+        }
+        lacks
+    }
+
+    /// Makes at most so many changes of one table in its indexes that lack them, the oldest first. The tables and all replies
+    /// stay the same.
+    pub fn settle(&mut self, alloc: Global, most: usize) -> Result<(), AllocError>
+        ensures { self.new ≡ self.old }
+    {
+        let Some(name) = self.unsettled(alloc)? else {
+            return Ok(());
+        };
+        self.by_name.revise(alloc, name, Settled { most })?;
+        Ok(())
+    }
+
+    // A table whose indexes lack changes.
+    fn unsettled(&self, alloc: Global) -> Result<Option<Atom>, AllocError> {
+        for name in self.wide.iter() {
+            if let Some(table) = self.table(name) {
+                if table.lacks() > 0 {
+                    return Ok(Some(name.try_clone(alloc)?));
+                }
+            }
+        }
+        Ok(None)
     }
 
     /// Returns whether there are fewer tables than the limit.

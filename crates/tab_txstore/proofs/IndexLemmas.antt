@@ -62,7 +62,7 @@ module _ (xs es : Touched) (ks : List Term) (seen : Rows) (p : ℕ) (x : PlainTe
       cases (Some us) f b g = ap (filter (has_value p x)) (seen_here q (Some us) f)
       cases None f true g = ap (filter (has_value p x)) (seen_here q None f)
       cases None f false g =
-          sym (none_left (has_value p x) (at (joined es) (term q)) (sym (keys q) ∙ g))
+          sym (none_left (has_value p x) (at (joined es) (term q)) (keys q g))
           ∙ ap (filter (has_value p x)) (at-joined es q o.ascends o.keyed ∙ seen_here q None f)
 
   found_seen : filter (has_value p x) (joined whole) ≡ index_read seen p x

@@ -110,7 +110,7 @@ impl TxStore {
     {
         let condition = Condition::Has(position, value.try_clone(alloc)?);
         let snapshot = self.snapshot(committed)?;
-        match committed.keys_with(position, value)? {
+        match committed.keys_with(alloc, position, value)? {
             Some(keys) => {
                 let at = AtKeys { keys, snapshot };
                 SharedTerms::from_query(alloc, Scope::Keys(at), condition)

@@ -4,7 +4,7 @@ use Rattle.tab_session.proofs.ServedLemmas.{serving_init, serving_handed, servin
 use Rattle.tab_session.proofs.serving.serve_all.Goals as goal
 
 pub loop-frame-init : goal.loop-frame-init
-loop-frame-init g c = record { serving = rw c.new-buffer.ensures.items (serving_init c.args.outbox _ _ _); faults = refl }
+loop-frame-init g c = record { serving = rw (c.settle.ensures, c.new-buffer.ensures.items) (serving_init c.args.outbox _ _ _); faults = refl }
 
 pub returns-in_err-put-clause-served : goal.returns-in_err-put-clause-served
 returns-in_err-put-clause-served g c =

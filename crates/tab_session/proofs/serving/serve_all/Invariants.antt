@@ -9,5 +9,5 @@ pub record Kept (A B : Type 0) : Type 0 where
 
 abbrev pub invariant-loop-frame : goal.invariant-loop-frame
 invariant-loop-frame g l = Kept
-    (IsServing l.fn.outbox l.initial.core l.core (contents l.frames) (contents (drop l.frame-index l.frames)) (g.W.Target.contents l.initial.output) (g.W.Target.contents l.output) l.buffer.items)
+    (IsServing l.fn.outbox l.fn.core l.core (contents l.frames) (contents (drop l.frame-index l.frames)) (g.W.Target.contents l.initial.output) (g.W.Target.contents l.output) l.buffer.items)
     (g.W.Target.faults l.output ≡ g.W.Target.faults l.initial.output)

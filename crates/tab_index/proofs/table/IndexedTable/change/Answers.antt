@@ -19,4 +19,5 @@ invariant_of-self-then-is_empty c =
       apart = subst AreApart (sym (ap (λ v. v.1) changed)) (apart_apply was.0 was.1 c.args.update.now kept.ordered kept.apart);
       positions_are = kept.positions_are;
       indexes_are = λ k d h. absurd (omega (arith, none, h));
+      leads = tt;
     }

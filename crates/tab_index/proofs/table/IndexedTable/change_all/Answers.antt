@@ -17,4 +17,5 @@ invariant_of-self-then-is_empty g c =
       apart = after.apart;
       positions_are = kept.positions_are;
       indexes_are = λ k d h. absurd (omega (arith, none, h));
+      leads = tt;
     }

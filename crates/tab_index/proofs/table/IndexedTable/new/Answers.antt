@@ -13,4 +13,5 @@ invariant_of-result c =
       apart = none_apart _ none;
       positions_are = c.in_ok-indexes.ensures.positions ∙ ap (λ d. d.indexes) (sym c.in_ok-new.ensures.ok);
       indexes_are = subst (λ rows. AreIndexesOf rows c.in_ok-indexes.indexes.items) (sym none) c.in_ok-indexes.ensures.indexes;
+      leads = tt;
     }

@@ -1,0 +1,223 @@
+//! Changes of a table that its indexes lack.
+
+ghost use Rattle.std.specs.Prelude.{◌≡◌, [], ◌++◌, ◌||◌, IfOk, OnOk, OnErr, IsTrue, MatchOption, None, length};
+ghost use Rattle.std.specs.List.{list_any};
+ghost use Rattle.std.specs.Option.{option_copied};
+ghost use Rattle.tab_term.specs.Order.{term_cmp};
+ghost use Rattle.tab_term.specs.View.{term};
+ghost use Rattle.tab_map.specs.KeyList.{contains_key, KeysAscend};
+ghost use Rattle.tab_model.specs.Tables.{Rows as RowsOf, is_ordered, rows_after};
+ghost use Rattle.tab_model.specs.declared.data.TableDef.{TableDef as TableDefOf};
+ghost use Rattle.tab_index.specs.FurtherOf.{AreApart};
+ghost use Rattle.tab_index.specs.Indexed.{positions, AreIndexesOf, LeadsTo, begun_at, indexed_rows, row_written, writes};
+
+use crate::element::{element, key, nil};
+use crate::index::Index;
+use crate::indexes::shared_indexes;
+use crate::table::change_both;
+use std::alloc::{AllocError, Global};
+use std::marker::Model;
+use tab_map::Set;
+use tab_model::Change;
+use tab_rows::{Form, Rows, Update};
+use tab_term::Term;
+
+/// A table with more indexes than these has its changes in its indexes later, some at a time: a commit of a thousand writes
+/// would else change hundreds of thousands of entries at once.
+pub const AT_ONCE: usize = 16;
+
+/// The records that a table's indexes are of, and the changes that were made to them since, in turn. Contracts see both.
+pub struct Backlog {
+    rows: Rows,
+    updates: Vec<Update>,
+}
+
+impl Model for Backlog {
+    ghost use Rattle.std.specs.Coded.{codes};
+    ghost use Rattle.tab_term.specs.Code.{term_code, terms_code, pairs_code};
+    ghost use Rattle.tab_index.specs.Indexed.{Behind};
+
+    ghost Value = { Behind };
+
+    ghost coded = { Prim.hlevel (codes, term_code, terms_code, pairs_code) };
+
+    ghost view = { λ a. (a.rows, a.updates.items) };
+}
+
+// A derived Drop would be expanded, field by field, at each exit of each caller.
+impl Drop for Backlog {
+    fn drop(self) {
+        let Backlog { rows, updates } = self;
+        drop(rows);
+        drop(updates);
+    }
+}
+
+impl Backlog {
+    /// No changes. It takes no memory.
+    pub fn new(alloc: Global, rows: Rows) -> Backlog
+        ensures { result ≡ (rows, []) }
+    {
+        Backlog {
+            rows,
+            updates: Vec::new(alloc),
+        }
+    }
+
+    /// The same changes, copied. The records are shared.
+    pub fn share(&self, alloc: Global) -> Result<Backlog, AllocError>
+        ensures { IfOk result (λ same. same ≡ self.now) }
+    {
+        let mut same = Backlog::new(alloc, self.rows.share()?);
+        same.add(alloc, self.updates.as_slice())?;
+        Ok(same)
+    }
+
+    /// Adds changes that were made.
+    pub fn add(&mut self, alloc: Global, updates: &[Update]) -> Result<(), AllocError>
+        ensures { OnOk result (self.new ≡ (self.old.0, self.old.1 ++ updates.now)) }
+    {
+        for update in updates {
+            self.updates.push(Update::new(update.to_change(alloc)?))?;
+        }
+        Ok(())
+    }
+
+    /// The records that the indexes are of.
+    pub fn rows(&self) -> &Rows
+        ensures { result.now ≡ self.now.0 }
+    {
+        &self.rows
+    }
+
+    /// The number of changes.
+    pub fn len(&self) -> usize
+        ensures { result ≡ length self.now.1 }
+    {
+        self.updates.len()
+    }
+
+    /// The keys, and those of the changes that write a record with the value at the position.
+    pub fn keys_onto(
+        &self,
+        alloc: Global,
+        mut keys: Set<Term>,
+        position: u64,
+        value: &Term,
+    ) -> Result<Set<Term>, AllocError>
+        requires { KeysAscend term_cmp keys }
+        ensures keys { IfOk result
+            (λ all. (k : Term) → contains_key term_cmp k all
+            ≡ (list_any (writes position (term value.now) (term k)) self.now.1
+            || contains_key term_cmp k keys)) }
+        ensures in_order { IfOk result (λ all. KeysAscend term_cmp all) }
+    {
+        for update in &self.updates {
+            add_key(alloc, &mut keys, update, position, value)?;
+        }
+        Ok(keys)
+    }
+
+    /// The indexes with at most so many changes more, the first ones, which are changes of the backlog no longer.
+    pub fn settle(
+        &mut self,
+        alloc: Global,
+        indexes: &[Index],
+        most: usize,
+    ) -> Result<Vec<Index>, AllocError>
+        requires indexes { AreIndexesOf self.old.0.1 indexes.now }
+        requires ordered { IsTrue (is_ordered self.old.0.1) }
+        requires apart { AreApart self.old.0.1 }
+        ensures positions { IfOk result (λ new. positions new.items ≡ positions indexes.now) }
+        ensures indexes { IfOk result (λ new. AreIndexesOf self.new.0.1 new.items) }
+        ensures leads { (def : TableDefOf) (rows : RowsOf) → LeadsTo def rows self.old
+            → LeadsTo def rows self.new }
+        ensures err { OnErr result (self.new ≡ self.old) }
+    {
+        let made = most.min(self.updates.len());
+        let mut indexes = shared_indexes(alloc, indexes)?;
+        let mut rows = self.rows.share()?;
+        change_both(alloc, &mut indexes, &mut rows, &self.updates[..made], None)?;
+        let left = self.updates.split_off(made)?;
+        self.updates = left;
+        self.rows = rows;
+        Ok(indexes)
+    }
+}
+
+// Adds the key of a change that writes a record with the value at the position.
+fn add_key(
+    alloc: Global,
+    keys: &mut Set<Term>,
+    update: &Update,
+    position: u64,
+    value: &Term,
+) -> Result<(), AllocError>
+    requires { KeysAscend term_cmp keys.old }
+    ensures keys { OnOk result
+        ((k : Term) → contains_key term_cmp k keys.new
+        ≡ (writes position (term value.now) (term k) update.now
+        || contains_key term_cmp k keys.old)) }
+    ensures in_order { OnOk result (KeysAscend term_cmp keys.new) }
+{
+    let Some(row) = written(update) else {
+        return Ok(());
+    };
+    let nil = nil(alloc);
+    if element(row, position, &nil) == value {
+        keys.insert(alloc, key(row, &nil).try_clone(alloc)?)?;
+        return Ok(());
+    }
+    Ok(())
+}
+
+// The record that a change writes.
+fn written(update: &Update) -> Option<&Term>
+    ensures { option_copied result ≡ row_written update.now }
+{
+    match update.form() {
+        Form::Only(only) => Some(only.row()),
+        Form::Change(Change::Write(row)) => Some(row),
+        Form::Change(_) => None,
+    }
+}
+
+/// The same backlog, if there is one.
+pub fn shared_backlog(
+    alloc: Global,
+    backlog: &Option<Backlog>,
+) -> Result<Option<Backlog>, AllocError>
+    ensures { IfOk result (λ same. same ≡ backlog.now) }
+{
+    match backlog {
+        Some(backlog) => Ok(Some(backlog.share(alloc)?)),
+        None => Ok(None),
+    }
+}
+
+/// The backlog that a table's next changes are added to. None if they are made in its indexes at once.
+pub fn put_off(
+    backlog: Option<Backlog>,
+    alloc: Global,
+    rows: &Rows,
+    indexes: usize,
+) -> Result<Option<Backlog>, AllocError>
+    ensures { IfOk result (λ later. MatchOption later (backlog ≡ None)
+        (λ b. b ≡ begun_at rows.now backlog)) }
+{
+    match backlog {
+        Some(backlog) => Ok(Some(backlog)),
+        None if indexes > AT_ONCE => Ok(Some(Backlog::new(alloc, rows.share()?))),
+        None => Ok(None),
+    }
+}
+
+/// The records that a table's indexes are of.
+pub fn indexed<'a>(rows: &'a Rows, backlog: &'a Option<Backlog>) -> &'a Rows
+    ensures { result.now.1 ≡ indexed_rows rows.now.1 backlog.now }
+{
+    match backlog {
+        Some(backlog) => backlog.rows(),
+        None => rows,
+    }
+}
