@@ -8,7 +8,7 @@ table, again and again, in a one-shot each. The row has how often it read, and o
 nothing beside first, which is what the machine and the client take. The longest is that of all rounds, so other work on the machine moves it.
 Where more CLIENTS than one are given, so many ask at once, and only the rows whose request each of them can make are printed. Where WORDS are
 given, only the rows that contain one of them are. The last column is the processor time, in milliseconds, that the thread of one client took for
-all that the row names, at most: no hold of the book's mutex is longer.
+all that the row names, at most: no hold of the book's mutex is longer. What it does in several holds, as for many indexes, counts together.
 """
 
 import contextlib
@@ -37,6 +37,8 @@ RECORDS, BAGGED, WRITES, DUMPS, READS, FINDS, WATCHERS = 100_000, 6_000, 899, 32
 INDEXES, WIDE, ELEMENTS, ENTRIES = 254, 333, 1_000_000, 200_000
 # As many commands on tables as make a journal full, by two, and transactions behind them.
 PAIRS, FOLDS = 66, 20
+# The most sessions.
+SESSIONS = 64
 # The rounds of a row that uses up an attribute of its table in each.
 MOST_ROUNDS = 5
 # A read's own record, in a table of its own.
@@ -208,15 +210,19 @@ def wide_writes(server: Server, client: Connection) -> Work:
     return work
 
 
-def wide_commits(server: Server, client: Connection) -> Work:
+def wide_commits(rounds: int) -> Prepare:
     """The commit of a transaction whose writes came each in a request of its own, in each round that of another session."""
-    sessions = [server.connect() for _ in range(MOST_ROUNDS)]
-    for session in sessions:
-        opened(session)
-        session.socket.settimeout(PATIENCE)
-        script(*((session, write, OK) for write in wide_writes_of(wide_table(client), range(READS))))
-    left = iter(sessions)
-    return lambda: committed(next(left))
+
+    def prepare(server: Server, client: Connection) -> Work:
+        sessions = [server.connect() for _ in range(rounds)]
+        for session in sessions:
+            opened(session)
+            session.socket.settimeout(PATIENCE)
+            script(*((session, write, OK) for write in wide_writes_of(wide_table(client), range(READS))))
+        left = iter(sessions)
+        return lambda: committed(next(left))
+
+    return prepare
 
 
 def indexed_deletions(server: Server, client: Connection) -> Work:
@@ -260,9 +266,7 @@ def own_indexes(verb: str, indexed: bool) -> Prepare:
 
 
 def index_folds(server: Server, client: Connection) -> Work:
-    """Transactions that each fold commands on a table: the journal is full of such, and each of them made an index."""
-    for _ in range(PAIRS):
-        index_again(client, "t")
+    """Transactions that each fold a command."""
     request, size = ("transaction", [("read", "t", 1)] * READS, 0), size_of(("atomic", [[small_record(1)]] * READS))
 
     def work() -> None:
@@ -277,7 +281,7 @@ def many_watch(server: Server, client: Connection) -> Work:
     return watched(server, client, ("t", WATCHERS), request, [OK] * READS)
 
 
-def rows(count: int) -> Iterator[Tuple[str, Callable[[Connection], None], Prepare]]:
+def rows(rounds: int, count: int) -> Iterator[Tuple[str, Callable[[Connection], None], Prepare]]:
     """What, how its table is made, and what is done each time."""
     small, one = table(small_record, RECORDS, 500), table(small_record, 1)
     # Of what is sent as a reply many are sent as much together as one is alone.
@@ -288,6 +292,12 @@ def rows(count: int) -> Iterator[Tuple[str, Callable[[Connection], None], Prepar
     def with_index(client: Connection) -> None:
         script((client, ("create_table", "t", [("index", ["val"])]), ATOMIC))
         fill(client, lambda key: indexed[key], RECORDS, 500)
+
+    def with_commands(client: Connection) -> None:
+        """The journal is full of commands on the table, of which each second made an index."""
+        small(client)
+        for _ in range(PAIRS):
+            index_again(client, "t")
 
     yield "nothing", small, nothing
     yield f"6 transactions of {long} reads of a record of 1 MB", table(long_record(MEGABYTE), 1), long_transactions(long)
@@ -313,10 +323,12 @@ def rows(count: int) -> Iterator[Tuple[str, Callable[[Connection], None], Prepar
     yield f"{DUMPS} dumps, {RECORDS} records", small, many_dumps
     yield f"a one-shot of {WRITES} writes to a key of a bag of its own, of {BAGGED} records, told in detail", one, bag_writes
     yield f"a one-shot of {WRITES} deletions there, told in detail", one, bag_deletions
+    yield f"{FOLDS} one-shots of {READS} reads that fold commands on a table of {RECORDS} records", with_commands, index_folds
+    # Each commit has a session of its own.
+    if count * (rounds + 1) < SESSIONS:
+        yield f"the commit of {READS} writes to a table with {INDEXES} indexes", one, wide_commits(rounds)
     if count > 1:
         return
-    yield f"the commit of {READS} writes to a table with {INDEXES} indexes", one, wide_commits
-    yield f"{FOLDS} one-shots of {READS} reads that fold commands on a table of {RECORDS} records", small, index_folds
     yield f"a one-shot of {READS} writes, told in detail to {WATCHERS}", small, many_watch
 
 
@@ -328,7 +340,7 @@ def main() -> None:
         sys.exit(f"at most {MOST_ROUNDS} rounds")
     words = sys.argv[4].split() if len(sys.argv) > 4 else [""]
     print("what | reads | median | longest | processor")
-    for what, make, prepare in rows(count):
+    for what, make, prepare in rows(rounds, count):
         if not any(word in what for word in words):
             continue
         waited: List[float] = []
