@@ -35,6 +35,8 @@ Prepare = Callable[[Server, Connection], Work]
 RECORDS, BAGGED, WRITES, DUMPS, READS, FINDS, WATCHERS = 100_000, 6_000, 899, 32, 999, 99, 60
 # The most indexes of a table, the writes to it, the elements of a record's list that a request has room for, and index entries.
 INDEXES, WIDE, ELEMENTS, ENTRIES = 254, 333, 1_000_000, 200_000
+# The indexes of a bag from which a key with many records is deleted.
+SOME = 16
 # As many commands on tables as make a journal full, by two, and transactions behind them.
 PAIRS, FOLDS = 66, 20
 # The most sessions.
@@ -238,6 +240,25 @@ def indexed_deletions(server: Server, client: Connection) -> Work:
     return work
 
 
+def bag_record(name: str, indexes: int, key: int, number: int) -> Term:
+    """With its number in each indexed position."""
+    return (name, key, *[number] * indexes)
+
+
+def key_deletions(rounds: int, indexes: int) -> Prepare:
+    """The deletion of a key that has many records, in a bag of its own with so many indexes: in each round that of the next key."""
+
+    def prepare(server: Server, client: Connection) -> Work:
+        name, values = f"keyed{next(OWN)}", [f"v{at}" for at in range(indexes)]
+        script((client, ("create_table", name, [("type", "bag"), ("attributes", ["key", *values]), ("index", values)]), ATOMIC))
+        for key in range(rounds):
+            fill(client, partial(bag_record, name, indexes, key), RECORDS, 500)
+        left = iter(range(rounds))
+        return lambda: script((client, ("transaction", [("delete", (name, next(left)))], 0), ("atomic", [OK])))
+
+    return prepare
+
+
 def refused_table(server: Server, client: Connection) -> Work:
     """A table whose last index entry, of many, is of no attribute."""
     attributes = [f"b{at}" for at in range(INDEXES)]
@@ -329,6 +350,8 @@ def rows(rounds: int, count: int) -> Iterator[Tuple[str, Callable[[Connection], 
         yield f"the commit of {READS} writes to a table with {INDEXES} indexes", one, wide_commits(rounds)
     if count > 1:
         return
+    yield f"a key of {RECORDS} records is deleted from a bag with an index", one, key_deletions(rounds, 1)
+    yield f"a key of {RECORDS} records is deleted from a bag with {SOME} indexes", one, key_deletions(rounds, SOME)
     yield f"a one-shot of {READS} writes, told in detail to {WATCHERS}", small, many_watch
 
 

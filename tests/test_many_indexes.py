@@ -1,4 +1,4 @@
-"""Tables of many indexes, whose changes are made in the indexes after the commit, some at a time."""
+"""Changes of many index entries, which are made in the indexes after the commit, some at a time."""
 
 import random
 import threading
@@ -6,7 +6,8 @@ from typing import Any, Callable, Iterator, List
 
 import pytest
 
-from tests.lib.checks import ATOMIC, OK, committed, one_shot, opened, script, side_by_side
+from tests.lib.checks import ATOMIC, OK, change, committed, one_shot, opened, script, side_by_side
+from tests.lib.holding import fill
 from tests.lib.servers import Server
 from tests.lib.wire import Connection, Term
 
@@ -18,6 +19,8 @@ EACH = 100
 PER_CHANGE = 300
 # How often a reader begins again whose lock another holds.
 RETRIES = 1000
+# The records of a key that is deleted, and the indexes of its bag.
+LARGE, SEVERAL = 20_000, 8
 # Keys and values of the random changes, the commits, and the changes of each.
 KEYS, VALUES, COMMITS, CHANGES = 40, 3, 40, 60
 
@@ -106,3 +109,41 @@ def test_others_come_between(serve: Callable[..., Server]) -> None:
     few = WRITES // EACH + 1
     assert set(sizes) <= {(0, 0), (few, few)}
     assert sizes.count((few, few)) > 3
+
+
+def of_bag(key: int, number: int) -> Term:
+    """A record that its number tells from others of the key, and of which few have 1 in the indexed positions."""
+    return ("t", key, *[int(number % EACH == 0)] * SEVERAL, number)
+
+
+def test_a_large_key_is_deleted_in_parts(serve: Callable[..., Server]) -> None:
+    """While a key's records are taken out of the indexes, another session's reads find none of them, but one that it writes then."""
+    server, done = serve("--connections", "2"), threading.Event()
+    deleter, reader = server.clients(2)
+    attributes = [f"a{at}" for at in range(SEVERAL + 2)]
+    options: Term = [("type", "bag"), ("attributes", attributes), ("index", attributes[1:-1])]
+    script((deleter, ("create_table", "t", options), ATOMIC))
+    fill(deleter, lambda number: of_bag(0, number), LARGE, 500)
+    other, again = of_bag(1, 0), of_bag(0, LARGE)
+    change(deleter, ("write", other))
+    found: List[Any] = []
+
+    def delete() -> None:
+        try:
+            change(deleter, ("delete", ("t", 0)))
+        finally:
+            done.set()
+
+    def read_on() -> None:
+        while not done.is_set() or found[-1] == [[other], [other]]:
+            found.append(reader.ask(one_shot(*(("index_read", "t", 1, at) for at in (attributes[1], attributes[-2])), retries=RETRIES))[1])
+            if found[-1] == [[other], [other]]:
+                change(reader, ("write", again))
+
+    side_by_side([(read_on, ()), (delete, ())])
+    sizes = [(len(first), len(last)) for first, last in found]
+    few = LARGE // EACH + 1
+    assert set(sizes) <= {(few, few), (1, 1), (2, 2)}
+    assert sizes == sorted(sizes, key=[(few, few), (1, 1), (2, 2)].index)
+    assert sizes.count((2, 2)) > 3
+    assert found[-1] == [[again, other]] * 2

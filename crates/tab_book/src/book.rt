@@ -125,7 +125,7 @@ impl<H: Host> Book<H> {
         }
     }
 
-    /// The number of changes by which the tables' indexes lack more than at the last call. `settle` makes them.
+    /// How many index entries more the tables' indexes lack than at the last call. `settle` makes them.
     pub fn take_owed(&mut self) -> usize
         ensures { self.new ≡ self.old }
     {
@@ -135,12 +135,14 @@ impl<H: Host> Book<H> {
         owed
     }
 
-    /// Makes at most so many changes of one table in its indexes that lack them. If memory is refused, they lack them still.
-    pub fn settle(&mut self, most: usize)
+    /// Makes changes of one table in its indexes that lack them, of at most so many entries. Returns how many entries the tables'
+    /// indexes lack then. If memory is refused, they lack all that they did.
+    pub fn settle(&mut self, most: usize) -> usize
         ensures { self.new ≡ self.old }
     {
         let _ = self.core.settle(most);
         self.lacked = self.core.lacks();
+        self.lacked
     }
 
     /// The tables as they are committed.

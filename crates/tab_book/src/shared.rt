@@ -58,8 +58,8 @@ const NAP: u64 = 20;
 
 const SLEEP: u64 = 1_000;
 
-/// The most changes that are made in a table's indexes under one hold. With 254 indexes they take some 10 milliseconds.
-const SETTLED: usize = 32;
+/// The most index entries that are changed later under one hold. They take some 10 milliseconds.
+const SETTLED: usize = 8_192;
 
 /// A book under a lock, and the conditions that its sessions sleep on. A caller that locks it and makes steps returns
 /// it by `let_go`, which wakes the sessions that may go on; the calls here do.
@@ -117,7 +117,7 @@ impl<H: Host> Shared<H> {
     }
 
     /// Unlocks the book. If a step released something, it wakes the sessions that may go on since. What was replaced is dropped after
-    /// that, and the changes that steps left for indexes of many are made in them, some at a time: others' steps come between.
+    /// that, and the changes that steps left for the indexes are made in them, some at a time: others' steps come between.
     pub fn let_go(&self, host: &H, mut book: MutexGuard<'_, Book<H>>, releases: bool) {
         let replaced = book.take_replaced();
         let owed = book.take_owed();
@@ -130,7 +130,16 @@ impl<H: Host> Shared<H> {
         }
         drop(replaced);
         for _ in 0..owed.div_ceil(SETTLED) {
-            self.hold(host).settle(SETTLED);
+            if self.hold(host).settle(SETTLED) == 0 {
+                return;
+            }
+            self.pause();
+        }
+    }
+
+    // Others that want the lock get it meanwhile, also if they sleep.
+    fn pause(&self) {
+        for _ in 0..TRIES {
             thread::yield_now();
         }
     }

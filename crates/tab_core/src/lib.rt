@@ -206,12 +206,12 @@ impl<P: Post + Drop> Core<P> {
         self.machine.replaced.take()
     }
 
-    /// The number of changes that the tables' indexes lack. `settle` makes them.
+    /// How many index entries the changes are of that the tables' indexes lack. `settle` makes them.
     pub fn lacks(&self) -> usize {
         self.machine.catalog.lacks()
     }
 
-    /// Makes at most so many changes of one table in its indexes that lack them. No state and no reply changes.
+    /// Makes changes of one table in its indexes that lack them, of at most so many entries. No state and no reply changes.
     pub fn settle(&mut self, most: usize) -> Result<(), AllocError>
         ensures { self.new ≡ self.old }
     {

@@ -1,10 +1,10 @@
 -- What changes leave at a key: no record with a value that was not there before and that none of them writes.
 use Rattle.std.proofs.Common.{◌≡◌, ℕ, List, [], ◌∷◌, ◌++◌, Bool, true, false, not, ◌&&◌, ◌||◌, take, drop, refl, sym, ap, ap₂, ◌∙◌, subst}
-use Rattle.std.specs.Prelude.{if◌then◌else◌, Option, Some, None}
-use Rattle.std.specs.List.{filter, list_any}
-use Rattle.std.proofs.lemmas.Bool.{false≢true}
+use Rattle.std.specs.Prelude.{if◌then◌else◌, Some, None}
+use Rattle.std.specs.List.{filter, list_any, list_all, slice_get}
+use Rattle.std.proofs.lemmas.Bool.{false≢true, and_parts}
 use Rattle.std.proofs.lemmas.List.{take-append-drop}
-use Rattle.std.proofs.lemmas.List.Folds.{list_any-append}
+use Rattle.std.proofs.lemmas.List.Folds.{list_any-append, list_all-append}
 use Rattle.tab_term.specs.declared.term.Term.{Term}
 use Rattle.tab_term.specs.Data.{PlainTerm}
 use Rattle.tab_term.specs.Order.{term_cmp}
@@ -15,13 +15,12 @@ use Rattle.tab_model.specs.declared.data.Change.{Change}
 use Rattle.tab_model.specs.declared.data.Change.TheVariants as change
 use Rattle.tab_model.specs.declared.data.Kind.{Kind}
 use Rattle.tab_model.specs.declared.data.Kind.TheVariants.{Set, Bag}
-use Rattle.tab_model.specs.Tables.{Rows, at, apply, key, delete_object, is_ordered, rows_after}
+use Rattle.tab_model.specs.Tables.{Rows, at, apply, key, has_key, delete, delete_object, is_ordered, rows_after}
 use Rattle.tab_model.proofs.ChangeLaws.{at-apply, ordered-apply}
 use Rattle.tab_model.proofs.TableLaws.{same_true, same_refl, at-del, at-put-set, at-put-bag}
 use Rattle.tab_index.specs.IndexOf.{has_value, AreKeysWith}
 use Rattle.tab_model.specs.declared.data.TableDef.{TableDef}
-use Rattle.tab_index.specs.declared.index.Index.{Index}
-use Rattle.tab_index.specs.Indexed.{Behind, begun_at, indexed_rows, IsIndexed, LeadsTo, row_written, writes}
+use Rattle.tab_index.specs.Indexed.{Pending, LeadsTo, deletes_one, key_deleted, row_written, writes}
 use Rattle.tab_index.proofs.FurtherRows.{bare_after}
 
 neither : (a b : Bool) → (a || b) ≡ false → (a ≡ false) × (b ≡ false)
@@ -102,24 +101,15 @@ rows_after_both : (kind : Kind) (rows : Rows) (cs ds : List Change) → rows_aft
 rows_after_both kind rows [] ds = refl
 rows_after_both kind rows (c ∷ cs) ds = rows_after_both kind (apply kind rows c) cs ds
 
--- what is behind before the next change
-pub begun_leads : (def : TableDef) (rows : Kind × Rows) (indexes : List Index) (backlog : Option Behind) → IsIndexed def rows indexes backlog → LeadsTo def rows.1 (begun_at rows backlog)
-begun_leads def rows indexes None kept = record { bare = record { kind = kept.kind; ordered = kept.ordered; apart = kept.apart }; after = refl }
-begun_leads def rows indexes (Some b) kept = kept.leads
-
-pub begun_rows : (rows : Kind × Rows) (backlog : Option Behind) → (begun_at rows backlog).0.1 ≡ indexed_rows rows.1 backlog
-begun_rows rows None = refl
-begun_rows rows (Some b) = refl
-
 -- with more changes
-pub more_leads : (def : TableDef) (rows : Rows) (b new : Behind) (cs : List Change) → LeadsTo def rows b → new ≡ (b.0, b.1 ++ cs) → LeadsTo def (rows_after def.kind rows cs) new
+pub more_leads : (def : TableDef) (rows : Rows) (b new : Pending) (cs : List Change) → LeadsTo def rows b → new ≡ (b.0, b.1 ++ cs) → LeadsTo def (rows_after def.kind rows cs) new
 more_leads def rows b new cs leads made = subst (LeadsTo def (rows_after def.kind rows cs)) (sym made) is
   where
     is : LeadsTo def (rows_after def.kind rows cs) (b.0, b.1 ++ cs)
     is = record { bare = leads.bare; after = rows_after_both def.kind b.0.1 b.1 cs ∙ ap (λ rs. rows_after def.kind rs cs) leads.after }
 
 -- with the first ones made
-pub fewer_lead : (def : TableDef) (rows : Rows) (b : Behind) (new : Kind × Rows) (left : List Change) (n : ℕ) → LeadsTo def rows b → new ≡ (b.0.0, rows_after b.0.0 b.0.1 (take n b.1)) → left ≡ drop n b.1 → LeadsTo def rows (new, left)
+fewer_lead : (def : TableDef) (rows : Rows) (b : Pending) (new : Kind × Rows) (left : List Change) (n : ℕ) → LeadsTo def rows b → new ≡ (b.0.0, rows_after b.0.0 b.0.1 (take n b.1)) → left ≡ drop n b.1 → LeadsTo def rows (new, left)
 fewer_lead def rows b new left n leads made rest = record {
   bare = bare_after def b.0 new (take n b.1) leads.bare made;
   after =
@@ -127,6 +117,64 @@ fewer_lead def rows b new left n leads made rest = record {
       ∙ ap (rows_after def.kind b.0.1) (take-append-drop n b.1) ∙ leads.after;
 }
 
+-- with some of the first change made
+parts_lead : (def : TableDef) (rows : Rows) (b : Pending) (mid : Kind × Rows) (parts : List Change) → LeadsTo def rows b → rows_after b.0.0 (rows_after b.0.0 b.0.1 parts) b.1 ≡ rows_after b.0.0 b.0.1 b.1
+    → mid ≡ (b.0.0, rows_after b.0.0 b.0.1 parts) → LeadsTo def rows (mid, b.1)
+parts_lead def rows b mid parts leads early made = record {
+  bare = bare_after def b.0 mid parts leads.bare made;
+  after = ap (λ v. rows_after def.kind v.1 b.1) made ∙ subst (λ k. rows_after k (rows_after b.0.0 b.0.1 parts) b.1 ≡ rows_after k b.0.1 b.1) leads.bare.kind early ∙ leads.after;
+}
+
+-- with that, or with the first ones made
+pub settled_lead : (def : TableDef) (rows : Rows) (b : Pending) (mid new : Kind × Rows) (parts left : List Change) (n : ℕ) → LeadsTo def rows b
+    → rows_after b.0.0 (rows_after b.0.0 b.0.1 parts) b.1 ≡ rows_after b.0.0 b.0.1 b.1 → mid ≡ (b.0.0, rows_after b.0.0 b.0.1 parts) → new ≡ (mid.0, rows_after mid.0 mid.1 (take n b.1)) → left ≡ drop n b.1 → LeadsTo def rows (new, left)
+settled_lead def rows b mid new parts left n leads early some made rest = fewer_lead def rows (mid, b.1) new left n (parts_lead def rows b mid parts leads early some) made rest
+
 -- with none left
-pub none_behind : (def : TableDef) (rows : Rows) (b : Behind) → LeadsTo def rows b → b.1 ≡ [] → b.0.1 ≡ rows
-none_behind def rows b leads none = ap (rows_after def.kind b.0.1) (sym none) ∙ leads.after
+pub none_pending : (def : TableDef) (rows : Rows) (b : Pending) → LeadsTo def rows b → b.1 ≡ [] → b.0.1 ≡ rows
+none_pending def rows b leads none = ap (rows_after def.kind b.0.1) (sym none) ∙ leads.after
+
+-- ---- a deletion in parts
+
+pub all_have : (p : PlainTerm → Bool) (xs : Rows) → list_all p (filter p xs) ≡ true
+all_have p [] = refl
+all_have p (x ∷ xs) = cases (p x) refl (all_have p xs)
+  where
+    cases : (b : Bool) → p x ≡ b → list_all p (filter p xs) ≡ true → list_all p (if b then x ∷ filter p xs else filter p xs) ≡ true
+    cases true e ih = ap (λ b. b && list_all p (filter p xs)) e ∙ ih
+    cases false e ih = ih
+
+pub one_more_part : (k : PlainTerm) (parts more : List Change) (r : Term) → more ≡ parts ++ change.DeleteObject r ∷ [] → has_key k (term r) ≡ true → list_all (deletes_one k) parts ≡ true → list_all (deletes_one k) more ≡ true
+one_more_part k parts more r is h all =
+    ap (list_all (deletes_one k)) is ∙ list_all-append (deletes_one k) parts (change.DeleteObject r ∷ []) ∙ ap (λ b. b && list_all (deletes_one k) (change.DeleteObject r ∷ [])) all ∙ ap (λ b. b && true) h
+
+-- a key's deletion takes out a record of it that went before
+part_of_deletion : (rows : Rows) (r k : PlainTerm) → same (key r) k ≡ true → delete (delete_object rows r) k ≡ delete rows k
+part_of_deletion [] r k h = refl
+part_of_deletion (x ∷ rows) r k h = cases (same r x) refl (has_key k x) refl (part_of_deletion rows r k h)
+  where
+    cases : (b : Bool) → same r x ≡ b → (d : Bool) → has_key k x ≡ d → delete (delete_object rows r) k ≡ delete rows k
+        → delete (if not b then x ∷ delete_object rows r else delete_object rows r) k ≡ (if not d then x ∷ delete rows k else delete rows k)
+    cases true e true f ih = ih
+    cases true e false f ih = absurd (false≢true (sym f ∙ ap (has_key k) (sym (same_true r x e)) ∙ h))
+    cases false e d f ih = ap (λ b. if not b then x ∷ delete (delete_object rows r) k else delete (delete_object rows r) k) f ∙ ap (λ rs. if not d then x ∷ rs else rs) ih
+
+parts_of_deletion : (kind : Kind) (rows : Rows) (k : PlainTerm) (ds : List Change) → list_all (deletes_one k) ds ≡ true → delete (rows_after kind rows ds) k ≡ delete rows k
+parts_of_deletion kind rows k [] h = refl
+parts_of_deletion kind rows k (change.Write r ∷ ds) h = absurd (false≢true h)
+parts_of_deletion kind rows k (change.Delete t j ∷ ds) h = absurd (false≢true h)
+parts_of_deletion kind rows k (change.DeleteObject r ∷ ds) h =
+    let is = and_parts (same (key (term r)) k) (list_all (deletes_one k) ds) h in
+    parts_of_deletion kind (delete_object rows (term r)) k ds is.1 ∙ part_of_deletion rows (term r) k is.0
+
+-- where the first change is the deletion of a key, some of its records may go before
+pub parts_before : (kind : Kind) (rows : Rows) (parts cs : List Change) (c : Change) (k : Term) → slice_get cs 0 ≡ Some c → key_deleted c ≡ Some k → list_all (deletes_one (term k)) parts ≡ true
+    → rows_after kind (rows_after kind rows parts) cs ≡ rows_after kind rows cs
+parts_before kind rows parts [] c k first deletes all = let none : None ≡ Some c = first in cc
+parts_before kind rows parts (d ∷ cs) (change.Write r) k first deletes all = let none : None ≡ Some k = deletes in cc
+parts_before kind rows parts (d ∷ cs) (change.DeleteObject r) k first deletes all = let none : None ≡ Some k = deletes in cc
+parts_before kind rows parts (d ∷ cs) (change.Delete t j) k first deletes all =
+    let is : d ≡ change.Delete t j = cc in
+    let key : j ≡ k = cc in
+    ap (λ e. rows_after kind (apply kind (rows_after kind rows parts) e) cs) is
+    ∙ ap (λ rs. rows_after kind rs cs) (parts_of_deletion kind rows (term j) parts (ap (λ x. list_all (deletes_one (term x)) parts) key ∙ all)) ∙ ap (λ e. rows_after kind (apply kind rows e) cs) (sym is)

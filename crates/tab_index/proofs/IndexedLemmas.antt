@@ -11,7 +11,7 @@ use Rattle.tab_model.specs.declared.data.TableDef.{TableDef}
 use Rattle.tab_model.specs.Tables.{Rows, rows_after}
 use Rattle.tab_index.specs.declared.index.Index.{Index}
 use Rattle.tab_model.specs.declared.data.Kind.{Kind}
-use Rattle.tab_index.specs.Indexed.{positions, IsOf, IsBare, IsIndexed, AreIndexesOf, Behind, LeadsTo}
+use Rattle.tab_index.specs.Indexed.{positions, IsOf, IsBare, IsIndexed, AreIndexesOf, Pending, LeadsTo}
 
 -- one more index, for the next position
 pub next_position : (indexes new : List Index) (x : Index) (ps : List ℕ) (i d : ℕ) (all : List ℕ) → i < length ps → x.position ≡ get_or ps i d → new ≡ indexes ++ x ∷ []
@@ -91,7 +91,7 @@ put_at rows xs n y h here = All-append (IsOf rows) (take n xs) (y ∷ drop n xs)
 -- ---- changes that indexes lack
 
 -- they lead to the same records under another definition of the same type
-pub leads_again : (def other : TableDef) (rows : Rows) (backlog : Option Behind) → other.kind ≡ def.kind → IfSome backlog (LeadsTo def rows) → IfSome backlog (LeadsTo other rows)
+pub leads_again : (def other : TableDef) (rows : Rows) (backlog : Option Pending) → other.kind ≡ def.kind → IfSome backlog (LeadsTo def rows) → IfSome backlog (LeadsTo other rows)
 leads_again def other rows None same leads = tt
 leads_again def other rows (Some b) same leads = record {
   bare = record { kind = leads.bare.kind ∙ sym same; ordered = leads.bare.ordered; apart = leads.bare.apart };
@@ -100,10 +100,10 @@ leads_again def other rows (Some b) same leads = record {
 
 -- ---- parts of a table that are equal to those of one
 
-pub bare_of : (def other : TableDef) (rows same : Kind × Rows) (indexes : List Index) (backlog : Option Behind) → IsIndexed def rows indexes backlog → other ≡ def → same ≡ rows → IsBare other same
+pub bare_of : (def other : TableDef) (rows same : Kind × Rows) (indexes : List Index) (backlog : Option Pending) → IsIndexed def rows indexes backlog → other ≡ def → same ≡ rows → IsBare other same
 bare_of def other rows same indexes backlog kept d r = subst (λ x. IsBare x same) (sym d) (subst (IsBare def) (sym r) (record { kind = kept.kind; ordered = kept.ordered; apart = kept.apart }))
 
-pub leads_of : (def other : TableDef) (rows same : Kind × Rows) (indexes : List Index) (backlog copy : Option Behind) → IsIndexed def rows indexes backlog → other ≡ def → same ≡ rows → copy ≡ backlog
+pub leads_of : (def other : TableDef) (rows same : Kind × Rows) (indexes : List Index) (backlog copy : Option Pending) → IsIndexed def rows indexes backlog → other ≡ def → same ≡ rows → copy ≡ backlog
     → IfSome copy (LeadsTo other same.1)
 leads_of def other rows same indexes backlog copy kept d r b =
     subst (λ o. IfSome o (LeadsTo other same.1)) (sym b) (subst (λ x. IfSome backlog (LeadsTo x same.1)) (sym d) (subst (λ (x : Kind × Rows). IfSome backlog (LeadsTo def x.1)) (sym r) kept.leads))

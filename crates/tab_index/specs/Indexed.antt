@@ -42,23 +42,30 @@ pub record IsBare (def : TableDef) (rows : Kind × Rows) : Type 0 where
 -- ---- changes that the indexes lack
 
 -- the records that indexes are of, and the changes that were made to them since
-abbrev pub Behind : Type 0
-Behind = (Kind × Rows) × List Change
+abbrev pub Pending : Type 0
+Pending = (Kind × Rows) × List Change
 
 -- the records that a table's indexes are of
-abbrev pub indexed_rows : Rows → Option Behind → Rows
+abbrev pub indexed_rows : Rows → Option Pending → Rows
 indexed_rows rows None = rows
 indexed_rows rows (Some b) = b.0.1
 
--- what is behind before the next change
-abbrev pub begun_at : Kind × Rows → Option Behind → Behind
-begun_at rows None = (rows, [])
-begun_at rows (Some b) = b
-
 -- the changes lead to these records
-pub record LeadsTo (def : TableDef) (rows : Rows) (b : Behind) : Type 0 where
+pub record LeadsTo (def : TableDef) (rows : Rows) (b : Pending) : Type 0 where
   pub bare : IsBare def b.0
   pub after : rows_after def.kind b.0.1 b.1 ≡ rows
+
+-- whether a change deletes one record, and it has this key
+abbrev pub deletes_one : PlainTerm → Change → Bool
+deletes_one k (change.Write r) = false
+deletes_one k (change.Delete t j) = false
+deletes_one k (change.DeleteObject r) = same (key (term r)) k
+
+-- the key that a change deletes
+abbrev pub key_deleted : Change → Option Term
+key_deleted (change.Write r) = None
+key_deleted (change.Delete t k) = Some k
+key_deleted (change.DeleteObject r) = None
 
 -- the record that a change writes
 abbrev pub row_written : Change → Option Term
@@ -73,7 +80,7 @@ writes p x k (change.Delete t j) = false
 writes p x k (change.DeleteObject r) = false
 
 -- what a table keeps
-pub record IsIndexed (def : TableDef) (rows : Kind × Rows) (indexes : List Index) (backlog : Option Behind) : Type 0 where
+pub record IsIndexed (def : TableDef) (rows : Kind × Rows) (indexes : List Index) (backlog : Option Pending) : Type 0 where
   pub kind : rows.0 ≡ def.kind
   pub ordered : is_ordered rows.1 ≡ true
   pub apart : AreApart rows.1

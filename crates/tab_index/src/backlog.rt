@@ -1,7 +1,7 @@
 //! Changes of a table that its indexes lack.
 
-ghost use Rattle.std.specs.Prelude.{◌≡◌, [], ◌++◌, ◌||◌, IfOk, OnOk, OnErr, IsTrue, MatchOption, None, length};
-ghost use Rattle.std.specs.List.{list_any};
+ghost use Rattle.std.specs.Prelude.{◌≡◌, [], ◌++◌, ◌||◌, ◌≤◌, IfOk, OnOk, OnErr, IsTrue, length};
+ghost use Rattle.std.specs.List.{list_any, list_all};
 ghost use Rattle.std.specs.Option.{option_copied};
 ghost use Rattle.tab_term.specs.Order.{term_cmp};
 ghost use Rattle.tab_term.specs.View.{term};
@@ -9,7 +9,7 @@ ghost use Rattle.tab_map.specs.KeyList.{contains_key, KeysAscend};
 ghost use Rattle.tab_model.specs.Tables.{Rows as RowsOf, is_ordered, rows_after};
 ghost use Rattle.tab_model.specs.declared.data.TableDef.{TableDef as TableDefOf};
 ghost use Rattle.tab_index.specs.FurtherOf.{AreApart};
-ghost use Rattle.tab_index.specs.Indexed.{positions, AreIndexesOf, LeadsTo, begun_at, indexed_rows, row_written, writes};
+ghost use Rattle.tab_index.specs.Indexed.{positions, AreIndexesOf, LeadsTo, deletes_one, indexed_rows, key_deleted, row_written, writes};
 
 use crate::element::{element, key, nil};
 use crate::index::Index;
@@ -22,22 +22,23 @@ use tab_model::Change;
 use tab_rows::{Form, Rows, Update};
 use tab_term::Term;
 
-/// A table with more indexes than these has its changes in its indexes later, some at a time: a commit of a thousand writes
-/// would else change hundreds of thousands of entries at once.
-pub const AT_ONCE: usize = 16;
+/// A record that is deleted by itself takes as long as so many of a key that are deleted together.
+const AS_LONG: usize = 8;
 
 /// The records that a table's indexes are of, and the changes that were made to them since, in turn. Contracts see both.
 pub struct Backlog {
     rows: Rows,
     updates: Vec<Update>,
+    // Of how many records the changes are.
+    records: usize,
 }
 
 impl Model for Backlog {
     ghost use Rattle.std.specs.Coded.{codes};
     ghost use Rattle.tab_term.specs.Code.{term_code, terms_code, pairs_code};
-    ghost use Rattle.tab_index.specs.Indexed.{Behind};
+    ghost use Rattle.tab_index.specs.Indexed.{Pending};
 
-    ghost Value = { Behind };
+    ghost Value = { Pending };
 
     ghost coded = { Prim.hlevel (codes, term_code, terms_code, pairs_code) };
 
@@ -47,7 +48,11 @@ impl Model for Backlog {
 // A derived Drop would be expanded, field by field, at each exit of each caller.
 impl Drop for Backlog {
     fn drop(self) {
-        let Backlog { rows, updates } = self;
+        let Backlog {
+            rows,
+            updates,
+            records: _,
+        } = self;
         drop(rows);
         drop(updates);
     }
@@ -61,6 +66,7 @@ impl Backlog {
         Backlog {
             rows,
             updates: Vec::new(alloc),
+            records: 0,
         }
     }
 
@@ -69,17 +75,23 @@ impl Backlog {
         ensures { IfOk result (λ same. same ≡ self.now) }
     {
         let mut same = Backlog::new(alloc, self.rows.share()?);
-        same.add(alloc, self.updates.as_slice())?;
+        same.add(alloc, self.records, self.updates.as_slice())?;
         Ok(same)
     }
 
-    /// Adds changes that were made.
-    pub fn add(&mut self, alloc: Global, updates: &[Update]) -> Result<(), AllocError>
+    /// Adds changes that were made, of so many records.
+    pub fn add(
+        &mut self,
+        alloc: Global,
+        records: usize,
+        updates: &[Update],
+    ) -> Result<(), AllocError>
         ensures { OnOk result (self.new ≡ (self.old.0, self.old.1 ++ updates.now)) }
     {
         for update in updates {
             self.updates.push(Update::new(update.to_change(alloc)?))?;
         }
+        self.records = self.records.saturating_add(records);
         Ok(())
     }
 
@@ -95,6 +107,11 @@ impl Backlog {
         ensures { result ≡ length self.now.1 }
     {
         self.updates.len()
+    }
+
+    /// The number of records that the changes are of.
+    pub fn records(&self) -> usize {
+        self.records.max(self.updates.len())
     }
 
     /// The keys, and those of the changes that write a record with the value at the position.
@@ -118,7 +135,8 @@ impl Backlog {
         Ok(keys)
     }
 
-    /// The indexes with at most so many changes more, the first ones, which are changes of the backlog no longer.
+    /// The indexes with the first changes of at most so many records more, which are changes of the backlog no longer. Of a deletion of
+    /// more records some are taken out, and it stays a change.
     pub fn settle(
         &mut self,
         alloc: Global,
@@ -134,15 +152,104 @@ impl Backlog {
             → LeadsTo def rows self.new }
         ensures err { OnErr result (self.new ≡ self.old) }
     {
-        let made = most.min(self.updates.len());
+        let (made, records) = self.fitting(most);
+        let parts = self.parts(alloc, most)?;
         let mut indexes = shared_indexes(alloc, indexes)?;
         let mut rows = self.rows.share()?;
+        change_both(alloc, &mut indexes, &mut rows, &parts, None)?;
         change_both(alloc, &mut indexes, &mut rows, &self.updates[..made], None)?;
         let left = self.updates.split_off(made)?;
         self.updates = left;
         self.rows = rows;
+        self.records = self
+            .records
+            .saturating_sub(records)
+            .saturating_sub(parts.len());
         Ok(indexes)
     }
+
+    // How many of the first changes are of at most so many records, and of how many they are.
+    fn fitting(&self, most: usize) -> (usize, usize)
+        ensures { result.0 ≤ length self.now.1 }
+    {
+        let mut records: usize = 0;
+        for (made, update) in self.updates.iter().enumerate() {
+            let more = records.saturating_add(records_of(&self.rows, update));
+            if more > most {
+                return (made, records);
+            }
+            records = more;
+        }
+        (self.updates.len(), records)
+    }
+
+    // If the first change deletes more records than these: deletions of some of them.
+    fn parts(&self, alloc: Global, most: usize) -> Result<Vec<Update>, AllocError>
+        ensures { let kind = self.now.0.0 in
+            let rows = self.now.0.1 in
+            IfOk result (λ parts. rows_after kind (rows_after kind rows parts.items) self.now.1
+            ≡ rows_after kind rows self.now.1) }
+    {
+        let Some(first) = self.updates.first() else {
+            return Ok(Vec::new(alloc));
+        };
+        match deleted(first) {
+            Some(key) if records_of(&self.rows, first) > most => {
+                first_deletions(alloc, &self.rows, key, most.div_ceil(AS_LONG))
+            }
+            _ => Ok(Vec::new(alloc)),
+        }
+    }
+}
+
+// The deletions of at most so many records of the key, the first ones.
+fn first_deletions(
+    alloc: Global,
+    rows: &Rows,
+    key: &Term,
+    most: usize,
+) -> Result<Vec<Update>, AllocError>
+    ensures { IfOk result (λ parts. IsTrue (list_all (deletes_one (term key.now)) parts.items)) }
+{
+    let mut parts = Vec::new(alloc);
+    for record in rows.at(key) {
+        if parts.len() == most {
+            return Ok(parts);
+        }
+        let record = record.try_clone(alloc)?;
+        parts.push(Update::new(Change::DeleteObject(record)))?;
+    }
+    Ok(parts)
+}
+
+// The key that a change deletes.
+fn deleted(update: &Update) -> Option<&Term>
+    ensures { option_copied result ≡ key_deleted update.now }
+{
+    match update.form() {
+        Form::Change(Change::Delete(_, key)) => Some(key),
+        _ => None,
+    }
+}
+
+/// How many records the change enters in an index or takes out, if it is the next one.
+fn records_of(rows: &Rows, update: &Update) -> usize {
+    let Some(key) = deleted(update) else {
+        return 1;
+    };
+    match rows.entry(key) {
+        Some(entry) => entry.pair().1.len().max(1),
+        None => 1,
+    }
+}
+
+/// How many records the changes enter in an index or take out, if each is the next one.
+pub fn records_of_all(rows: &Rows, updates: &[Update]) -> usize {
+    let mut records: usize = 0;
+    for update in updates {
+        records = records.saturating_add(records_of(rows, update));
+    }
+    records
 }
 
 // Adds the key of a change that writes a record with the value at the position.
@@ -191,23 +298,6 @@ pub fn shared_backlog(
 {
     match backlog {
         Some(backlog) => Ok(Some(backlog.share(alloc)?)),
-        None => Ok(None),
-    }
-}
-
-/// The backlog that a table's next changes are added to. None if they are made in its indexes at once.
-pub fn put_off(
-    backlog: Option<Backlog>,
-    alloc: Global,
-    rows: &Rows,
-    indexes: usize,
-) -> Result<Option<Backlog>, AllocError>
-    ensures { IfOk result (λ later. MatchOption later (backlog ≡ None)
-        (λ b. b ≡ begun_at rows.now backlog)) }
-{
-    match backlog {
-        Some(backlog) => Ok(Some(backlog)),
-        None if indexes > AT_ONCE => Ok(Some(Backlog::new(alloc, rows.share()?))),
         None => Ok(None),
     }
 }

@@ -12,7 +12,7 @@ ghost use Rattle.tab_index.specs.FurtherOf.{AreApart};
 ghost use Rattle.tab_index.specs.IndexOf.{AreKeysWith};
 ghost use Rattle.tab_index.specs.Indexed.{positions, indexed_rows, AreIndexesOf, IsBare, LeadsTo};
 
-use crate::backlog::{AT_ONCE, Backlog, indexed, put_off, shared_backlog};
+use crate::backlog::{Backlog, indexed, records_of_all, shared_backlog};
 use crate::index::Index;
 use crate::indexes::{
     empty_indexes, index_at, indexes_of, new_place, other_indexes, positions_of, shared_indexes,
@@ -28,6 +28,10 @@ use tab_records::Records;
 use tab_rows::{Rows, Update};
 use tab_schema::with_positions;
 use tab_term::Term;
+
+/// Changes of more index entries than these are made in the indexes later, some at a time. A commit of a thousand writes to a
+/// table of many indexes is of hundreds of thousands.
+const AT_ONCE: usize = 16_384;
 
 /// A table: its definition, which its versions share, its records, and their indexes.
 pub struct IndexedTable {
@@ -246,9 +250,59 @@ impl IndexedTable {
         self.share(alloc)?.applied(alloc, updates, lender)
     }
 
-    /// The table after the changes, in turn, in place if nothing is shared; records may be shared as by `updated`. If it has many
-    /// indexes, `settle` makes them in these. An error drops the table.
+    /// How many index entries the changes are of, if each is the next one.
+    pub fn entries(&self, updates: &[Update]) -> usize {
+        if self.indexes.is_empty() {
+            return 0;
+        }
+        records_of_all(&self.rows, updates).saturating_mul(self.indexes.len())
+    }
+
+    /// Returns whether the changes are of too many index entries to be made at once, so that `settle` makes them.
+    pub fn puts_off(&self, updates: &[Update]) -> bool {
+        self.entries(updates) > AT_ONCE
+    }
+
+    /// The same table. If its next changes are of too many index entries to be made at once, `settle` will make them in the indexes.
+    pub fn ready_for(self, alloc: Global, entries: usize) -> Result<IndexedTable, AllocError>
+        ensures { IfOk result (λ table. table ≡ self) }
+    {
+        if entries <= AT_ONCE || self.backlog.is_some() {
+            return Ok(self);
+        }
+        let IndexedTable {
+            def,
+            rows,
+            indexes,
+            backlog: _,
+        } = self;
+        let backlog = Backlog::new(alloc, rows.share()?);
+        Ok(IndexedTable {
+            def,
+            rows,
+            indexes,
+            backlog: Some(backlog),
+        })
+    }
+
+    /// The table after the changes, in turn, in place if nothing is shared; records may be shared as by `updated`. If they are of
+    /// too many index entries to be made at once, `settle` makes them in the indexes. An error drops the table.
     pub fn applied(
+        self,
+        alloc: Global,
+        updates: &[Update],
+        lender: Option<&Map<Term, Records>>,
+    ) -> Result<IndexedTable, AllocError>
+        ensures { IfOk result
+            (λ table. table ≡ with_rows self (applied_in self.def.kind self.rows updates.now)) }
+    {
+        let entries = self.entries(updates);
+        let table = self.ready_for(alloc, entries)?;
+        table.after(alloc, updates, lender)
+    }
+
+    // As `applied`. The changes are put off if there is a backlog.
+    fn after(
         self,
         alloc: Global,
         updates: &[Update],
@@ -263,7 +317,7 @@ impl IndexedTable {
             mut indexes,
             backlog,
         } = self;
-        let Some(mut backlog) = put_off(backlog, alloc, &rows, indexes.len())? else {
+        let Some(mut backlog) = backlog else {
             change_both(alloc, &mut indexes, &mut rows, updates, lender)?;
             return Ok(IndexedTable {
                 def,
@@ -272,7 +326,7 @@ impl IndexedTable {
                 backlog: None,
             });
         };
-        backlog.add(alloc, updates)?;
+        backlog.add(alloc, records_of_all(&rows, updates), updates)?;
         change_rows(alloc, &mut rows, updates, lender)?;
         Ok(IndexedTable {
             def,
@@ -326,27 +380,24 @@ impl IndexedTable {
         Ok(())
     }
 
-    /// Returns whether changes are made in its indexes later, by `settle`.
-    pub fn is_wide(&self) -> bool {
-        self.indexes.len() > AT_ONCE
-    }
-
-    /// The number of changes that the indexes lack. `settle` makes them.
+    /// How many index entries the changes in the backlog are of. `settle` makes them.
     pub fn lacks(&self) -> usize {
         match &self.backlog {
-            Some(backlog) => backlog.len(),
+            Some(backlog) => backlog.records().saturating_mul(self.indexes.len()),
             None => 0,
         }
     }
 
-    /// Makes at most so many changes in the indexes that lack them, the oldest first. Records and replies stay the same.
+    /// Makes changes of the backlog in the indexes, of at most so many entries or of one record, the oldest first. Records and replies
+    /// stay the same.
     pub fn settle(&mut self, alloc: Global, most: usize) -> Result<(), AllocError>
         ensures { self.new ≡ self.old }
     {
         let Some(backlog) = &mut self.backlog else {
             return Ok(());
         };
-        self.indexes = backlog.settle(alloc, &self.indexes, most)?;
+        let records = most.checked_div(self.indexes.len()).unwrap_or(most);
+        self.indexes = backlog.settle(alloc, &self.indexes, records.max(1))?;
         if backlog.len() == 0 {
             self.backlog = None;
         }
@@ -408,6 +459,8 @@ pub fn change_both(
     requires apart { AreApart rows.old.1 }
     ensures positions { OnOk result (positions indexes.new.items ≡ positions indexes.old.items) }
     ensures indexes { OnOk result (AreIndexesOf rows.new.1 indexes.new.items) }
+    ensures ordered { OnOk result (IsTrue (is_ordered rows.new.1)) }
+    ensures apart { OnOk result (AreApart rows.new.1) }
     ensures rows { OnOk result
         (rows.new ≡ (rows.old.0, applied_in rows.old.0 rows.old.1 updates.now)) }
 {

@@ -3,7 +3,7 @@
 //! None says that the payload is no such request, or that there is no memory for it: `decode` and `read_request` then say
 //! which, and a fault's position.
 
-ghost use Rattle.std.specs.Prelude.{◌≡◌, ◌<◌, ◌+◌, ◌-◌, ◌&&◌, Ok, IfSome, IsTrue};
+ghost use Rattle.std.specs.Prelude.{◌≡◌, ◌<◌, ◌+◌, ◌-◌, Ok, IfSome, IsTrue};
 ghost use Rattle.tab_model.specs.declared.ask.Ask.TheVariants.{Do};
 ghost use Rattle.tab_etf.specs.Reading.{term_at, times, whole};
 ghost use Rattle.tab_proto.specs.Commands.{term_of, is_command};

@@ -169,15 +169,13 @@ impl BareCatalog {
         ensures { IfOk result (λ catalog. catalog ≡ self.now) }
     {
         let mut tables = Vec::new(alloc);
-        let mut wide = Set::new();
         for entry in self.by_name.iter() {
             let (name, table) = entry.pair();
             tables.push((name.try_clone(alloc)?, table.indexed(alloc)?))?;
-            wide.insert(alloc, name.try_clone(alloc)?)?;
         }
         Ok(Catalog {
             by_name: Map::from_sorted(alloc, tables)?,
-            wide,
+            pending: Set::new(),
         })
     }
 }

@@ -9,7 +9,7 @@ ghost use Rattle.tab_tables.specs.OneTable.{AreOf};
 use crate::altered::{AllAltered, Altered, Settled};
 use crate::changing::Changing;
 use crate::lender::Lender;
-use crate::tags::{only_table, table_of_update};
+use crate::tags::{is_deletion, only_table, table_of_update};
 use std::alloc::{AllocError, Global};
 use std::marker::Model;
 use std::slice;
@@ -23,8 +23,8 @@ use tab_term::Atom;
 #[derive(Drop)]
 pub struct Catalog {
     pub(crate) by_name: Map<Atom, IndexedTable>,
-    /// Names, among which are those of all tables whose indexes may lack changes.
-    pub(crate) wide: Set<Atom>,
+    /// Names, among which are those of all tables whose indexes lack changes.
+    pub(crate) pending: Set<Atom>,
 }
 
 impl Model for Catalog {
@@ -49,7 +49,7 @@ impl Catalog {
     {
         Catalog {
             by_name: Map::new(),
-            wide: Set::new(),
+            pending: Set::new(),
         }
     }
 
@@ -59,7 +59,7 @@ impl Catalog {
     {
         Ok(Catalog {
             by_name: self.by_name.share()?,
-            wide: self.wide.share()?,
+            pending: self.pending.share()?,
         })
     }
 
@@ -91,14 +91,14 @@ impl Catalog {
     {
         let Catalog {
             mut by_name,
-            mut wide,
+            mut pending,
         } = self;
         let name = table.def().name.try_clone(alloc)?;
-        if table.is_wide() {
-            wide.insert(alloc, name.try_clone(alloc)?)?;
+        if table.lacks() > 0 {
+            pending.insert(alloc, name.try_clone(alloc)?)?;
         }
         by_name.insert(alloc, name, table)?;
-        Ok(Catalog { by_name, wide })
+        Ok(Catalog { by_name, pending })
     }
 
     /// The tables after the changes, in turn. These stay as they were, and share with the new ones all that did not
@@ -153,6 +153,7 @@ impl Catalog {
         ensures ok { OnOk result (self.new ≡ change_all self.old updates.now) }
         ensures err { OnErr result (self.new ≡ self.old) }
     {
+        self.note(alloc, &name, updates)?;
         let records = lender.records(updates, &name);
         let all = AllAltered {
             rt,
@@ -172,11 +173,31 @@ impl Catalog {
         ensures ok { OnOk result (self.new ≡ change_catalog self.old update.now) }
         ensures err { OnErr result (self.new ≡ self.old) }
     {
+        let updates = slice::from_ref(update);
         let name = table_of_update(alloc, update)?;
-        let records = lender.records(slice::from_ref(update), &name);
+        self.note(alloc, &name, updates)?;
+        let records = lender.records(updates, &name);
         self.by_name
             .revise(alloc, name, Altered { update, records })?;
         Ok(())
+    }
+
+    // Adds the table to those whose indexes lack changes, if these changes will be put off.
+    fn note(&mut self, alloc: Global, name: &Atom, updates: &[Update]) -> Result<(), AllocError>
+        ensures { self.new ≡ self.old }
+    {
+        // A single change of another kind is of one record.
+        if let [update] = updates {
+            if !is_deletion(update) {
+                return Ok(());
+            }
+        }
+        match self.table(name) {
+            Some(table) if table.puts_off(updates) => {
+                self.pending.insert(alloc, name.try_clone(alloc)?)
+            }
+            _ => Ok(()),
+        }
     }
 
     /// The tables without the one of this name. These stay as they were.
@@ -185,14 +206,14 @@ impl Catalog {
     {
         Ok(Catalog {
             by_name: self.by_name.removed(alloc, name)?,
-            wide: self.wide.removed(alloc, name)?,
+            pending: self.pending.removed(alloc, name)?,
         })
     }
 
-    /// The number of changes that the tables' indexes lack. `settle` makes them.
+    /// How many index entries the changes are of that the tables' indexes lack. `settle` makes them.
     pub fn lacks(&self) -> usize {
         let mut lacks: usize = 0;
-        for name in self.wide.iter() {
+        for name in self.pending.iter() {
             if let Some(table) = self.table(name) {
                 lacks = lacks.saturating_add(table.lacks());
             }
@@ -200,28 +221,28 @@ impl Catalog {
         lacks
     }
 
-    /// Makes at most so many changes of one table in its indexes that lack them, the oldest first. The tables and all replies
-    /// stay the same.
+    /// Makes changes of one table in its indexes that lack them, of at most so many entries or of one record, the oldest first. The
+    /// tables and all replies stay the same.
     pub fn settle(&mut self, alloc: Global, most: usize) -> Result<(), AllocError>
         ensures { self.new ≡ self.old }
     {
-        let Some(name) = self.unsettled(alloc)? else {
+        let Some(name) = self.pending.iter().next() else {
             return Ok(());
         };
-        self.by_name.revise(alloc, name, Settled { most })?;
-        Ok(())
+        let name = name.try_clone(alloc)?;
+        self.by_name
+            .revise(alloc, name.try_clone(alloc)?, Settled { most })?;
+        self.take_settled(alloc, &name)
     }
 
-    // A table whose indexes lack changes.
-    fn unsettled(&self, alloc: Global) -> Result<Option<Atom>, AllocError> {
-        for name in self.wide.iter() {
-            if let Some(table) = self.table(name) {
-                if table.lacks() > 0 {
-                    return Ok(Some(name.try_clone(alloc)?));
-                }
-            }
+    // Takes the table from those whose indexes lack changes, if they lack none.
+    fn take_settled(&mut self, alloc: Global, name: &Atom) -> Result<(), AllocError>
+        ensures { self.new ≡ self.old }
+    {
+        match self.table(name) {
+            Some(table) if table.lacks() > 0 => Ok(()),
+            _ => self.pending.remove(alloc, name),
         }
-        Ok(None)
     }
 
     /// Returns whether there are fewer tables than the limit.

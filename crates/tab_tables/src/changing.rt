@@ -19,6 +19,8 @@ use tab_term::Atom;
 pub struct Changing {
     pub(crate) catalog: Catalog,
     pub(crate) newer: Option<IndexedTable>,
+    // The number of index entries that the changes were of.
+    entries: usize,
 }
 
 impl Model for Changing {
@@ -42,6 +44,7 @@ impl Changing {
         Changing {
             catalog,
             newer: None,
+            entries: 0,
         }
     }
 
@@ -54,50 +57,72 @@ impl Changing {
     ) -> Result<Changing, AllocError>
         ensures { IfOk result (λ next. next ≡ change_catalog self update.now) }
     {
-        let Changing { catalog, newer } = self;
         let name = table_of_update(alloc, update)?;
+        let Changing {
+            catalog,
+            newer,
+            entries,
+        } = self;
         let Some(table) = newer else {
-            return Changing::started(alloc, catalog, &name, update, lender);
+            return Changing::started(alloc, (catalog, entries), &name, update, lender);
         };
         if table.def().name == name {
             let updates = slice::from_ref(update);
+            let entries = entries.saturating_add(table.entries(updates));
             let records = lender.records(updates, &name);
+            let table = table.ready_for(alloc, entries)?;
             let table = table.applied(alloc, updates, records)?;
             return Ok(Changing {
                 catalog,
                 newer: Some(table),
+                entries,
             });
         }
-        Changing::started(alloc, catalog.with(alloc, table)?, &name, update, lender)
+        let catalog = catalog.with(alloc, table)?;
+        Changing::started(alloc, (catalog, entries), &name, update, lender)
     }
 
-    // The tables after a change of this one, whose new version shares what does not change.
+    // The tables after a change of this one, whose new version shares what does not change, with the entries that changes before it
+    // were of.
     fn started(
         alloc: Global,
-        catalog: Catalog,
+        before: (Catalog, usize),
         name: &Atom,
         update: &Update,
         lender: &Lender<'_>,
     ) -> Result<Changing, AllocError>
         requires { name.now ≡ table_of update.now }
-        ensures { IfOk result (λ next. next ≡ change_catalog catalog update.now) }
+        ensures { IfOk result (λ next. next ≡ change_catalog before.0 update.now) }
     {
-        let newer = match catalog.table(name) {
-            Some(table) => {
-                let updates = slice::from_ref(update);
-                let records = lender.records(updates, name);
-                Some(table.updated(alloc, updates, records)?)
-            }
-            None => None,
+        let (catalog, entries) = before;
+        let Some(table) = catalog.table(name) else {
+            return Ok(Changing {
+                catalog,
+                newer: None,
+                entries,
+            });
         };
-        Ok(Changing { catalog, newer })
+        let updates = slice::from_ref(update);
+        let entries = entries.saturating_add(table.entries(updates));
+        let records = lender.records(updates, name);
+        let table = table.share(alloc)?.ready_for(alloc, entries)?;
+        let table = table.applied(alloc, updates, records)?;
+        Ok(Changing {
+            catalog,
+            newer: Some(table),
+            entries,
+        })
     }
 
     /// The tables, once the last change is made.
     pub fn into_catalog(self, alloc: Global) -> Result<Catalog, AllocError>
         ensures { IfOk result (λ catalog. catalog ≡ self) }
     {
-        let Changing { catalog, newer } = self;
+        let Changing {
+            catalog,
+            newer,
+            entries: _,
+        } = self;
         match newer {
             Some(table) => catalog.with(alloc, table),
             None => Ok(catalog),

@@ -46,6 +46,11 @@ fn are_of(alloc: Global, name: &Atom, updates: &[Update]) -> Result<bool, AllocE
     Ok(true)
 }
 
+/// Returns whether an update deletes all records of a key.
+pub(crate) fn is_deletion(update: &Update) -> bool {
+    matches!(update.form(), Form::Change(Change::Delete(_, _)))
+}
+
 fn table_of_change(alloc: Global, change: &Change) -> Result<Atom, AllocError>
     ensures { IfOk result (λ name. name ≡ table_of change.now) }
 {

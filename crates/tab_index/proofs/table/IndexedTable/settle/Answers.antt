@@ -2,7 +2,7 @@ use Rattle.std.proofs.Common.{sym, ap, ◌∙◌, subst}
 use Rattle.std.specs.Prelude.{IfSome}
 use Rattle.std.proofs.lemmas.List.{nil_from_length}
 use Rattle.tab_index.specs.Indexed.{positions, indexed_rows, AreIndexesOf, LeadsTo}
-use Rattle.tab_index.proofs.BacklogLemmas.{none_behind}
+use Rattle.tab_index.proofs.BacklogLemmas.{none_pending}
 use Rattle.tab_index.proofs.table.IndexedTable.settle.Goals as goal
 
 pub settle-requires-clause-indexes : goal.settle-requires-clause-indexes
@@ -26,13 +26,13 @@ invariant_of-self-then-len-eq0 c =
     let kept = c.self.invariant in
     let before = subst (λ o. IfSome o (LeadsTo now.def.value now.rows.1)) c.in-Some.is kept.leads in
     let leads = c.settle.ensures.leads now.def.value now.rows.1 before in
-    let none = nil_from_length _ (sym c.len.ensures ∙ c.if-len-eq0.true) in
+    let none = nil_from_length _ (sym c.len-2.ensures ∙ c.if-len-eq0.true) in
     record {
       kind = kept.kind;
       ordered = kept.ordered;
       apart = kept.apart;
       positions_are = c.in_ok-self-inside.ensures.positions ∙ ap positions c.deref.ensures.value ∙ kept.positions_are;
-      indexes_are = subst (λ r. AreIndexesOf r c.in_ok-self-inside.field-0.items) (none_behind now.def.value now.rows.1 _ leads none) c.in_ok-self-inside.ensures.indexes;
+      indexes_are = subst (λ r. AreIndexesOf r c.in_ok-self-inside.field-0.items) (none_pending now.def.value now.rows.1 _ leads none) c.in_ok-self-inside.ensures.indexes;
       leads = tt;
     }
 

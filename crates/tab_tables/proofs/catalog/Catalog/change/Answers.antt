@@ -19,4 +19,4 @@ returns-clause-ok c =
     let change = c.args.update.now in
     let name = c.in_ok-name.ensures in
     ap catalog_of (c.in_ok-revise.ensures.ok ∙ ap (λ n. revised_at bytes_cmp (changed change) n es) name)
-    ∙ altered es change c.self.invariant ∙ ap (λ w. change_catalog w change) c.self.view_is
+    ∙ altered es change c.self.invariant ∙ ap (λ w. change_catalog w change) (c.self.view_is ∙ c.note.ensures)

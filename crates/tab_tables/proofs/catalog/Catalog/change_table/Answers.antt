@@ -10,4 +10,4 @@ invariant_of-self-2 g c = subst AreNamed (sym c.in_ok-revise.ensures.ok) (named_
 pub returns-clause-ok : goal.returns-clause-ok
 returns-clause-ok g c =
     ap catalog_of c.in_ok-revise.ensures.ok ∙ all_altered c.self.inside.by_name c.args.name c.args.updates.now c.self.invariant c.requires
-    ∙ ap (λ w. change_all w c.args.updates.now) c.self.view_is
+    ∙ ap (λ w. change_all w c.args.updates.now) (c.self.view_is ∙ c.note.ensures)

@@ -5,7 +5,7 @@ use Rattle.tab_tables.proofs.catalog.Catalog.settle.Goals as goal
 
 pub invariant_of-self-2 : goal.invariant_of-self-2
 invariant_of-self-2 c =
-    subst AreNamed (sym (c.in_ok-revise.ensures.ok ∙ revised_same c.self.inside.by_name c.in-Some.name)) c.self.invariant
+    subst AreNamed (sym (c.in_ok-revise.ensures.ok ∙ revised_same c.self.inside.by_name _)) c.self.invariant
 
 pub returns : goal.returns
-returns c = ap catalog_of (c.in_ok-revise.ensures.ok ∙ revised_same c.self.inside.by_name c.in-Some.name) ∙ c.self.view_is
+returns c = c.take_settled.ensures ∙ ap catalog_of (c.in_ok-revise.ensures.ok ∙ revised_same c.self.inside.by_name _) ∙ c.self.view_is
