@@ -135,14 +135,15 @@ impl<H: Host> Book<H> {
         owed
     }
 
-    /// Makes changes of one table in its indexes that lack them, of at most so many entries. Returns how many entries the tables'
-    /// indexes lack then. If memory is refused, they lack all that they did.
+    /// Makes changes of one table in its indexes that lack them, of at most so many entries. Returns how many entries were made: none
+    /// if no indexes lack changes, or if memory is refused.
     pub fn settle(&mut self, most: usize) -> usize
         ensures { self.new ≡ self.old }
     {
+        let before = self.core.lacks();
         let _ = self.core.settle(most);
         self.lacked = self.core.lacks();
-        self.lacked
+        before.saturating_sub(self.lacked)
     }
 
     /// The tables as they are committed.

@@ -120,7 +120,7 @@ impl<H: Host> Shared<H> {
     /// that, and the changes that steps left for the indexes are made in them, some at a time: others' steps come between.
     pub fn let_go(&self, host: &H, mut book: MutexGuard<'_, Book<H>>, releases: bool) {
         let replaced = book.take_replaced();
-        let owed = book.take_owed();
+        let mut owed = book.take_owed();
         if releases {
             let ready = book.ready();
             drop(book);
@@ -129,10 +129,12 @@ impl<H: Host> Shared<H> {
             drop(book);
         }
         drop(replaced);
-        for _ in 0..owed.div_ceil(SETTLED) {
-            if self.hold(host).settle(SETTLED) == 0 {
+        while owed > 0 {
+            let made = self.hold(host).settle(SETTLED);
+            if made == 0 {
                 return;
             }
+            owed = owed.saturating_sub(made);
             self.pause();
         }
     }

@@ -109,9 +109,14 @@ impl Backlog {
         self.updates.len()
     }
 
-    /// The number of records that the changes are of.
+    /// The number of records that the changes are of. Of the first it is exact, so that it falls with each part that is made.
     pub fn records(&self) -> usize {
-        self.records.max(self.updates.len())
+        let Some(first) = self.updates.first() else {
+            return 0;
+        };
+        let others = self.updates.len().saturating_sub(1);
+        let least = records_of(&self.rows, first).saturating_add(others);
+        self.records.max(least)
     }
 
     /// The keys, and those of the changes that write a record with the value at the position.
