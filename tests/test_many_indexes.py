@@ -19,8 +19,10 @@ EACH = 100
 PER_CHANGE = 300
 # How often a reader begins again whose lock another holds.
 RETRIES = 1000
-# The records of a key that is deleted, and the indexes of its bag.
-LARGE, SEVERAL = 20_000, 8
+# The records of a key that is deleted, the indexes of its bag, and how often.
+LARGE, SEVERAL, DELETIONS = 20_000, 8, 5
+# The least bytes of an old record that an index still has.
+PER_RECORD = 100
 # Keys and values of the random changes, the commits, and the changes of each.
 KEYS, VALUES, COMMITS, CHANGES = 40, 3, 40, 60
 
@@ -116,14 +118,36 @@ def of_bag(key: int, number: int) -> Term:
     return ("t", key, *[int(number % EACH == 0)] * SEVERAL, number)
 
 
+def large_key(client: Connection) -> None:
+    """In a new server: a bag with a key of many records."""
+    attributes = [f"a{at}" for at in range(SEVERAL + 2)]
+    options: Term = [("type", "bag"), ("attributes", attributes), ("index", attributes[1:-1])]
+    script((client, ("create_table", "t", options), ATOMIC))
+    fill_key(client)
+
+
+def fill_key(client: Connection) -> None:
+    fill(client, lambda number: of_bag(0, number), LARGE, 500)
+
+
+def test_a_deleted_key_is_kept_no_longer(serve: Callable[..., Server]) -> None:
+    """Its records are out of all indexes after the reply, and take no memory any more."""
+    server = serve("--connections", "1", "--journal", "16")
+    client = server.connect()
+    large_key(client)
+    used = []
+    for _ in range(DELETIONS):
+        change(client, ("delete", ("t", 0)))
+        fill_key(client)
+        used.append(server.kilobytes())
+    assert used[-1] - used[0] < LARGE * PER_RECORD / 1024
+
+
 def test_a_large_key_is_deleted_in_parts(serve: Callable[..., Server]) -> None:
     """While a key's records are taken out of the indexes, another session's reads find none of them, but one that it writes then."""
     server, done = serve("--connections", "2"), threading.Event()
     deleter, reader = server.clients(2)
-    attributes = [f"a{at}" for at in range(SEVERAL + 2)]
-    options: Term = [("type", "bag"), ("attributes", attributes), ("index", attributes[1:-1])]
-    script((deleter, ("create_table", "t", options), ATOMIC))
-    fill(deleter, lambda number: of_bag(0, number), LARGE, 500)
+    large_key(deleter)
     other, again = of_bag(1, 0), of_bag(0, LARGE)
     change(deleter, ("write", other))
     found: List[Any] = []
@@ -136,7 +160,7 @@ def test_a_large_key_is_deleted_in_parts(serve: Callable[..., Server]) -> None:
 
     def read_on() -> None:
         while not done.is_set() or found[-1] == [[other], [other]]:
-            found.append(reader.ask(one_shot(*(("index_read", "t", 1, at) for at in (attributes[1], attributes[-2])), retries=RETRIES))[1])
+            found.append(reader.ask(one_shot(*(("index_read", "t", 1, at) for at in ("a1", f"a{SEVERAL}")), retries=RETRIES))[1])
             if found[-1] == [[other], [other]]:
                 change(reader, ("write", again))
 
