@@ -11,12 +11,16 @@ from tests.lib.holding import fill
 from tests.lib.servers import Server
 from tests.lib.wire import Connection, Term
 
+# Between two parts of such a change the server yields to others, so it waits for other programs.
+pytestmark = pytest.mark.serial
 # The most indexes of a table, and the most writes of a transaction that begins, writes and commits by requests of its own.
 INDEXES, WRITES = 254, 999
 # The writes of which one has the value that is looked for.
 EACH = 100
 # The least bytes of a change that is kept: its record has 19 elements of 16 bytes.
 PER_CHANGE = 300
+# A change of many entries takes so many seconds at most.
+LONG = 150
 # How often a reader begins again whose lock another holds.
 RETRIES = 1000
 # The records of a key that is deleted, the indexes of its bag, and how often.
@@ -92,6 +96,7 @@ def test_others_come_between(serve: Callable[..., Server]) -> None:
     writer, reader = server.clients(2)
     wide(writer, "set", INDEXES)
     opened(writer)
+    writer.socket.settimeout(LONG)
     for key in range(WRITES):
         script((writer, ("write", ("t", key, *[int(key % EACH == 0)] * INDEXES)), OK))
     found: List[Any] = []
@@ -123,6 +128,7 @@ def large_key(client: Connection) -> None:
     attributes = [f"a{at}" for at in range(SEVERAL + 2)]
     options: Term = [("type", "bag"), ("attributes", attributes), ("index", attributes[1:-1])]
     script((client, ("create_table", "t", options), ATOMIC))
+    client.socket.settimeout(LONG)
     fill_key(client)
 
 
