@@ -17,18 +17,18 @@ pytestmark = pytest.mark.serial
 INDEXES, WRITES = 254, 999
 # The writes of which one has the value that is looked for.
 EACH = 100
-# The least bytes of a change that is kept: its record has 19 elements of 16 bytes.
-PER_CHANGE = 300
+# The least bytes of a change that is kept: its record has 62 elements of 16 bytes.
+PER_CHANGE = 900
 # A change of many entries takes so many seconds at most.
 LONG = 150
 # How often a reader begins again whose lock another holds.
 RETRIES = 1000
 # The records of a key that is deleted, the indexes of its bag, and how often.
-LARGE, SEVERAL, DELETIONS = 20_000, 8, 5
+LARGE, SEVERAL, DELETIONS = 20_000, 8, 3
 # The least bytes of an old record that an index still has.
 PER_RECORD = 100
 # Keys and values of the random changes, the commits, and the changes of each.
-KEYS, VALUES, COMMITS, CHANGES = 40, 3, 40, 60
+KEYS, VALUES, COMMITS, CHANGES = 40, 3, 20, 100
 
 
 def wide(client: Connection, kind: str, indexes: int) -> None:
@@ -49,7 +49,7 @@ def test_changes_are_kept_no_longer(serve: Callable[..., Server]) -> None:
     """Changes that are made in all indexes take no memory any more."""
     server = serve("--connections", "1", "--journal", "16")
     writer = server.connect()
-    indexes, keys, times = 17, 300, 400
+    indexes, keys, times = 60, 300, 100
     wide(writer, "set", indexes)
 
     def write_all(turn: int) -> None:
@@ -69,7 +69,7 @@ def test_index_reads_beside_commits(serve: Callable[..., Server], kind: str) -> 
     """What a reader finds by an index is what it finds in the whole table, in the same transaction."""
     server, chance, done = serve("--connections", "2"), random.Random(7), threading.Event()
     writer, reader = server.clients(2)
-    indexes = 100
+    indexes = 200
     wide(writer, kind, indexes)
     made = changes(kind, indexes, chance)
 
